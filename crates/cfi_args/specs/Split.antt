@@ -3,9 +3,11 @@ use Rattle.std.specs.Prelude.{◌≡◌, ◌≢◌, ℕ, List, [], ◌∷◌, ma
 use Rattle.cfi_args.specs.declared.split.Split.{Split}
 use Rattle.cfi_args.specs.Words.{IsOperand}
 
+-- the command, as it was written
 abbrev pub command_in : Split → List ℕ
 command_in split = split.command.now
 
+-- its operands, as they were written
 abbrev pub operands_of : Split → List (List ℕ)
 operands_of split = map (λ word. word.now) split.operands.items
 

@@ -45,6 +45,7 @@ name_where test k = seen_as (λ name. name.1) (and_with (word_where test (BadRec
 abbrev pub name_at : (k : ℕ) → Reader (List ℕ)
 name_at k = name_where is_name_length k
 
+-- the function of the numbers and the name that stand for it, one after the other
 abbrev pub function_of : ℕ × (ℕ × (ℕ × (ℕ × List ℕ))) → Function
 function_of (offset, (size, (ty, (flags, name)))) =
     record { offset = offset; length = size; ty = ty; taken = flags == 1; name = name }
@@ -93,6 +94,7 @@ abbrev pub version_or : Option RecordVersion → (rest : List ℕ) → Result (R
 version_or None rest = Err Version
 version_or (Some version) rest = Ok (version, rest)
 
+-- the version in the first word; the fault where there is none, or no such version
 unfoldable pub version_at : Reader RecordVersion
 version_at bytes =
     if nat_lt (length bytes) 4 then Err Version
@@ -108,6 +110,7 @@ abbrev pub lists_at : RecordVersion → (types : List Node) → (size : Option �
 lists_at version types size counts =
     and_also (each (function_at version types) 0 counts.0) (each (branch_at version types size) counts.0 counts.1)
 
+-- the records of the functions and branches that were read, without their counts
 abbrev pub records_of : (ℕ × ℕ) × (List Function × List Kind) → Records
 records_of (counts, (functions, branches)) = record { functions = functions; branches = branches }
 

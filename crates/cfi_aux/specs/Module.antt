@@ -46,6 +46,7 @@ fault_of (faults.BadNode k) = Types (faults.BadNode k)
 fault_of (faults.BadIndex k) = Types (faults.BadIndex k)
 fault_of faults.Short = Types faults.Short
 
+-- what reading types gives, with its fault as one of records
 abbrev pub as_types : Result (List Node) TypeFault → Result (List Node) AuxFault
 as_types (Ok table) = Ok table
 as_types (Err fault) = Err (fault_of fault)
@@ -57,5 +58,6 @@ parts_by size (Some types) None = Err NoRecords
 parts_by size (Some types) (Some records) =
     as_types (types_in types) >>= λ table. records_within table (Some size) records >>= λ found. Ok (table, found)
 
+-- the types and records of an object, or the first fault of these
 abbrev pub parts_in : Object → Result (List Node × Records) AuxFault
 parts_in object = parts_by (length object.static_data) object.types object.records

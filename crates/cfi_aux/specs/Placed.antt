@@ -10,11 +10,13 @@ use Rattle.elf_read.specs.declared.object.Place.TheVariants as places
 use Rattle.cfi_aux.specs.declared.records.Function.{Function}
 use Rattle.elf_read.specs.Sound.{is_exported, is_defined}
 
+-- the binding is Global
 abbrev pub is_global_binding : Binding → Bool
 is_global_binding bindings.Global = true
 is_global_binding bindings.Local = false
 is_global_binding bindings.Weak = false
 
+-- the place is in the text
 abbrev pub is_text : Place → Bool
 is_text places.Text = true
 is_text places.Undefined = false
@@ -37,6 +39,7 @@ address_in base data_base places.Data value = data_base + value
 address_in base data_base places.Absolute value = value
 address_in base data_base places.Undefined value = value
 
+-- the address of a symbol, where text and data begin at these addresses
 abbrev pub address_of : (base data_base : ℕ) → Symbol → ℕ
 address_of base data_base symbol = address_in base data_base symbol.place symbol.value
 

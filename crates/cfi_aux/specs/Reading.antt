@@ -23,6 +23,7 @@ ReadingGives view (Err e) due = ReadingFails e due
 
 -- ---- readers
 
+-- what reads a value from the front of bytes and leaves the rest
 abbrev pub Reader : Type 0 → Type 0
 Reader X = List ℕ → Result (X × List ℕ) AuxFault
 

@@ -24,9 +24,11 @@ padding n = (4 - n % 4) % 4
 abbrev pub name_bytes : List ℕ → List ℕ
 name_bytes name = word (length name) ++ (name ++ replicate (padding (length name)) 0)
 
+-- the word that says whether a function's address is taken
 abbrev pub flag_of : (taken : Bool) → ℕ
 flag_of taken = if taken then 1 else 0
 
+-- the bytes of a function: four words and its name
 abbrev pub function_bytes : Function → List ℕ
 function_bytes f = word f.offset ++ (word f.length ++ (word f.ty ++ (word (flag_of f.taken) ++ name_bytes f.name)))
 
@@ -38,6 +40,7 @@ kind_number Return = RETURN
 kind_number (Switch places) = SWITCH
 kind_number (Import name cell) = IMPORT
 
+-- the words of a branch's kind behind the one that says which it is
 abbrev pub kind_words : Kind → List ℕ
 kind_words (Call node) = node ∷ []
 kind_words (Tail node) = node ∷ []

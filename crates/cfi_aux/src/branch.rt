@@ -60,7 +60,8 @@ fn body_from<'a>(
     count: u32,
     bytes: &'a [u8],
 ) -> Result<(Kind, &'a [u8]), AuxFault>
-    ensures { ReadingGives (λ x. (x.0, x.1.now)) result (body_at version types.now size number kind count bytes.now) }
+    ensures { ReadingGives (λ x. (x.0, x.1.now)) result
+        (body_at version types.now size number kind count bytes.now) }
 {
     match kind {
         CALL => {
@@ -89,7 +90,8 @@ fn branch_from<'a>(
     number: u32,
     bytes: &'a [u8],
 ) -> Result<(Kind, &'a [u8]), AuxFault>
-    ensures { ReadingGives (λ x. (x.0, x.1.now)) result (branch_at version types.now size number bytes.now) }
+    ensures { ReadingGives (λ x. (x.0, x.1.now)) result
+        (branch_at version types.now size number bytes.now) }
 {
     let (kind, rest) = kind_from(version, number, bytes)?;
     let (count, rest) = word_count_from(kind, number, rest)?;

@@ -19,7 +19,8 @@ fn function_from<'a>(
     number: u32,
     bytes: &'a [u8],
 ) -> Result<(Function, &'a [u8]), AuxFault>
-    ensures { ReadingGives (λ x. (x.0, x.1.now)) result (function_at version types.now number bytes.now) }
+    ensures { ReadingGives (λ x. (x.0, x.1.now)) result
+        (function_at version types.now number bytes.now) }
 {
     let (offset, rest) = place_from(number, bytes)?;
     let (length, rest) = length_from(number, rest)?;

@@ -26,7 +26,8 @@ fn records_from<'a>(
     size: Option<usize>,
     bytes: &'a [u8],
 ) -> Result<(Records, &'a [u8]), AuxFault>
-    ensures { ReadingGives (λ x. (x.0, x.1.now)) result (records_at version types.now size bytes.now) }
+    ensures { ReadingGives (λ x. (x.0, x.1.now)) result
+        (records_at version types.now size bytes.now) }
 {
     let (function_count, rest) = count_from(MAX_FUNCTIONS, bytes)?;
     let (branch_count, rest) = count_from(MAX_BRANCHES, rest)?;
@@ -94,7 +95,8 @@ pub fn records_of_data(
     // What is read are records of a version, with cells within the data, and the bytes are their spelling in it.
     ensures ok { IfOk result (SpellsWithin types.now size bytes.now) }
     // Which fault it is.
-    ensures fault { ReadingGives (λ found. found) result (records_within types.now (Some size) bytes.now) }
+    ensures fault { ReadingGives (λ found. found) result
+        (records_within types.now (Some size) bytes.now) }
 {
     all_of(alloc, bytes, types, Some(size))
 }

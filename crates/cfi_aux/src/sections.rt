@@ -62,7 +62,8 @@ pub fn module_of(alloc: Global, object: Object) -> Result<Module, AuxFault>
     // It breaks no rule that its object does not.
     ensures sound { IsSoundObject object → IfOk result IsSoundModule }
     // Where there is such a module, it is the answer.
-    ensures only { (m : Module) → IsModuleOf object m → ReadingGives (λ found. found) result (Ok m) }
+    ensures only { (m : Module) → IsModuleOf object m
+        → ReadingGives (λ found. found) result (Ok m) }
     // Which fault it is.
     ensures fault { ReadingGives (λ m. (m.types, m.records)) result (parts_in object) }
 {

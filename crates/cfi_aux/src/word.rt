@@ -86,7 +86,8 @@ pub fn type_from<'a>(
 /// The flags of the function of record `number`.
 #[tactic(auto, unfolding(crate::specs::Reading::word_where))]
 pub fn flags_from(number: u32, bytes: &[u8]) -> Result<(u32, &[u8]), AuxFault>
-    ensures { ReadingGives (λ x. (x.0, x.1.now)) result (word_where is_flag (BadRecord number) bytes.now) }
+    ensures { ReadingGives (λ x. (x.0, x.1.now)) result
+        (word_where is_flag (BadRecord number) bytes.now) }
 {
     let (word, rest) = split_word(bytes).ok_or(AuxFault::Short)?;
     if !is_flag(word) {

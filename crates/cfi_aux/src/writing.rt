@@ -65,7 +65,8 @@ fn put_words(out: &mut Vec<u8>, kind: u32, words: &[u32]) -> Result<(), AllocErr
 fn put_import(out: &mut Vec<u8>, name: &Name, cell: u32) -> Result<(), AllocError>
     requires { length name.now < 2 ^ 32 }
     ensures { OnOk result (out.new.items ≡ out.old.items ++
-        (word IMPORT ++ (word (import_words (length name.now)) ++ (word cell ++ name_bytes name.now)))) }
+        (word IMPORT
+        ++ (word (import_words (length name.now)) ++ (word cell ++ name_bytes name.now)))) }
 {
     let words = import_words(name.as_str().len() as u32);
     put_word(out, IMPORT)?;

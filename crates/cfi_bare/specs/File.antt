@@ -10,6 +10,7 @@ pub record IsBareFile (bytes : List ℕ) (m : Module) : Type 0 where
   pub whole : length bytes % 4 ≡ 0
   pub is : m ≡ bare_module bytes
 
+-- the bytes are no whole words, told with their number; want of memory may always be
 abbrev pub IsBareFault : (bytes : List ℕ) → BareFault → Type 0
 IsBareFault bytes (Length count) = (length bytes ≡ count) × (count % 4 ≢ 0)
 IsBareFault bytes Memory = ⊤

@@ -16,10 +16,12 @@ bare_types = make_node VOID [] ∷ make_node FUNC (0 ∷ []) ∷ []
 abbrev pub bare_function : (size : ℕ) → Function
 bare_function size = record { offset = 0; length = size; ty = FUNCTION_TYPE; taken = false; name = codes "bare" }
 
+-- one function over all bytes; none where there are none
 abbrev pub bare_functions : (bytes : List ℕ) → List Function
 bare_functions [] = []
 bare_functions (byte ∷ bytes) = bare_function (length (byte ∷ bytes)) ∷ []
 
+-- the object of the bytes as text, with nothing else
 abbrev pub bare_object : (bytes : List ℕ) → Object
 bare_object bytes = record { text = bytes; static_data = []; symbols = []; relocs = []; types = None; records = None }
 

@@ -13,6 +13,7 @@ types_text (types.BadIndex node) = codes "BadIndex " ++ decimal node
 types_text types.Short = codes "Short"
 types_text types.Memory = codes "Memory"
 
+-- the words of each fault of records
 abbrev pub aux_text : AuxFault → List ℕ
 aux_text NoRecords = codes "aux NoRecords"
 aux_text (Types fault) = codes "types " ++ types_text fault

@@ -6,6 +6,7 @@ use Rattle.elf_read.specs.declared.fault.ElfFault.TheVariants.{Short, NotElf32, 
 use Rattle.elf_read.specs.declared.fault.Limit.{Limit}
 use Rattle.elf_read.specs.declared.fault.Limit.TheVariants.{Sections, Symbols, Relocs, Words, Data, Types, Functions, Branches}
 
+-- the words of each limit
 abbrev pub limit_text : Limit → List ℕ
 limit_text Sections = codes "Sections"
 limit_text Symbols = codes "Symbols"

@@ -12,6 +12,7 @@ use Rattle.cfi_commands.specs.Files.{ArePlacedFiles}
 abbrev pub slot_word : (slot : ℕ) → List ℕ
 slot_word slot = codes " " ++ dec_text slot
 
+-- an address in a line, after a space
 abbrev pub address_word : (address : ℕ) → List ℕ
 address_word address = codes " " ++ hex8_text address
 
@@ -21,6 +22,7 @@ line_by branches [] = codes "none" ++ flat_map slot_word branches ++ 10 ∷ []
 line_by branches (target ∷ targets) =
     codes "class" ++ flat_map slot_word branches ++ codes " :" ++ flat_map address_word (target ∷ targets) ++ 10 ∷ []
 
+-- the line of a group: its slots, then its addresses
 abbrev pub group_line : Group → List ℕ
 group_line group = line_by group.branches group.targets
 

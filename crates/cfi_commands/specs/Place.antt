@@ -6,6 +6,7 @@ use Rattle.rv_reloc.specs.declared.fault.RelocFault.TheVariants.{Range, NoPartne
 use Rattle.cfi_place.specs.declared.fault.PlaceFault.{PlaceFault}
 use Rattle.cfi_place.specs.declared.fault.PlaceFault.TheVariants.{Undefined, CodeFull, DataFull, Reloc, Memory}
 
+-- the words of a fault of a relocation
 abbrev pub reloc_text : RelocFault → List ℕ
 reloc_text Range = codes "Range"
 reloc_text NoPartner = codes "NoPartner"

@@ -14,6 +14,7 @@ use Rattle.cfi_commands.specs.Place.{place_text}
 use Rattle.cfi_commands.specs.Plan.{plan_text}
 use Rattle.cfi_commands.specs.Verify.{verify_text}
 
+-- the words of a refusal: its layer, then what that says
 abbrev pub refusal_text : Refusal → List ℕ
 refusal_text (Bare fault) = codes "bare " ++ bare_text fault
 refusal_text (Elf fault) = codes "elf " ++ elf_text fault

@@ -38,7 +38,8 @@ fn put_addition(text: &mut String, constant: u32) -> Result<(), AllocError>
 
 // Appends what a function adds.
 fn put_additions(text: &mut String, constants: &[u32]) -> Result<(), AllocError>
-    ensures { OnOk result (string_bytes text.new ≡ string_bytes text.old ++ flat_map addition constants.now) }
+    ensures { OnOk result
+        (string_bytes text.new ≡ string_bytes text.old ++ flat_map addition constants.now) }
 {
     for constant in constants {
         put_addition(text, *constant)?;
@@ -107,7 +108,8 @@ fn put_body(
 // Appends that the first function is global.
 #[tactic(auto, unfolding(crate::specs::Source::line))]
 fn put_global(text: &mut String, number: u32, place: usize) -> Result<(), AllocError>
-    ensures { OnOk result (string_bytes text.new ≡ string_bytes text.old ++ global_lines number place) }
+    ensures { OnOk result
+        (string_bytes text.new ≡ string_bytes text.old ++ global_lines number place) }
 {
     if place == 0 {
         write!(text, ".globl m{number}_f{place}\n")
@@ -126,7 +128,8 @@ fn taken_word(taken: bool) -> &'static str
 // Appends what a function begins with.
 #[tactic(auto, unfolding(crate::specs::Source::line))]
 fn put_func(text: &mut String, number: u32, place: usize, kind: &Kind) -> Result<(), AllocError>
-    ensures { OnOk result (string_bytes text.new ≡ string_bytes text.old ++ func_line number place kind.now) }
+    ensures { OnOk result
+        (string_bytes text.new ≡ string_bytes text.old ++ func_line number place kind.now) }
 {
     let node = kind.node;
     let taken = taken_word(kind.taken);

@@ -1,7 +1,9 @@
 -- The lines of a journal in a guest's name, and the opens of which the guest's log tells: the same, in order.
-use Rattle.std.specs.Prelude.{◌≡◌, ℕ, ◌==◌, if◌then◌else◌, Bool, true, false, List, [], ◌∷◌, filter, ⊤}
+use Rattle.std.specs.Prelude.{◌≡◌, ℕ, ◌==◌, Bool, true, false, not, List, [], ◌∷◌, filter, ⊤}
 use Rattle.cfi_plan.specs.declared.journal.JournalLine.{JournalLine}
-use Rattle.cfi_plan.specs.declared.journal.JournalLine.TheVariants.{LoadOk, LoadAgain, LoadFull, LoadPlace, LoadVerify, LoadVersions, LoadEpochs, RefreshOk, RefreshVersions, RefreshEpochs}
+use Rattle.cfi_plan.specs.declared.journal.JournalLine.TheVariants.{LoadOk, LoadAgain, LoadFull, LoadPlace, LoadVerify}
+use Rattle.cfi_plan.specs.declared.journal.JournalLine.TheVariants.{LoadVersions, LoadEpochs}
+use Rattle.cfi_plan.specs.declared.journal.JournalLine.TheVariants.{RefreshOk, RefreshVersions, RefreshEpochs}
 use Rattle.cfi_slips.specs.declared.view.SlipView.{SlipView}
 use Rattle.cfi_tables.specs.declared.view.PassView.{PassView}
 use Rattle.cfi_model.specs.Raw.{Raw}
@@ -46,7 +48,7 @@ Tells (Cause number cause) line = TellsCause number cause line
 abbrev pub has_asked : Log → Bool
 has_asked (Pick policy count) = false
 has_asked (Open number address policy) = true
-has_asked (Cause number cause) = if cause == NO_MODULE then false else true
+has_asked (Cause number cause) = not (cause == NO_MODULE)
 
 -- a line an entry, in order
 abbrev pub AreTold : List Log → List JournalLine → Type 0

@@ -22,6 +22,7 @@ pub record Conclusion : Type 0 where
   pub modules : List Module
   pub report : Report
 
+-- a conclusion, of its parts
 abbrev pub conclusion_of : Plan → List Module → Report → Conclusion
 conclusion_of plan modules report = record { plan = plan; modules = modules; report = report }
 

@@ -21,6 +21,7 @@ part_by plan ran = part_of ran.pass.guest (slice_index_or plan.guests ran.pass.g
 abbrev pub history_by : Key → Ledger → History
 history_by k l = history_seen k (sight_of k l.keeping [])
 
+-- the code words that a ledger's tables have
 abbrev pub code_by : Key → Ledger → List ℕ
 code_by k l = code_seen k (sight_of k l.keeping [])
 

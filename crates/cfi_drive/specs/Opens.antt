@@ -56,6 +56,7 @@ OpensBy true lacks k plan modules p q r new = IsUnasked TOO_MANY p q r new
 OpensBy false true k plan modules p q r new = IsUnasked NO_MODULE p q r new
 OpensBy false false k plan modules p q r new = HasAskedLoader k plan modules p q r new
 
+-- the answer that an open of the guest has had, by the opens it has logged and the modules of the plan
 abbrev pub HasOpened : Key → Plan → List Module → (p q : PassView) → (r new : Raw) → Type 0
 HasOpened k plan modules p q r new =
     OpensBy (nat_le MAX_OPENS (opens r.base.log)) (nat_le (length plan.modules) (argument r.base)) k plan modules p q r

@@ -21,10 +21,12 @@ pub record IsDue (end : JournalState) (r : Raw) (reply : Reply) : Type 0 where
   pub most : reply.policy ≤ end.policy
   pub fills : reply.fills ≡ fills_between (given_by r.base.log) reply.policy end.loaded
 
+-- a service that answered with cause 0 was due, as the state at the end has it; of a word nothing is asked
 abbrev pub IsDueWith : JournalState → Raw → Take → Type 0
 IsDueWith end r (Word word) = ⊤
 IsDueWith end r (Served reply) = reply.cause ≡ 0 → IsDue end r reply
 
+-- so it is of all takes, each at the guest as it was then
 abbrev pub AreDue : JournalState → Raw → List Take → Type 0
 AreDue end r [] = ⊤
 AreDue end r (t ∷ takes) = IsDueWith end r t × AreDue end (take_one r t) takes

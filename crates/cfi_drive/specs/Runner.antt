@@ -64,6 +64,7 @@ pub record HasEnded (k : Key) (plan : Plan) (modules : List Module) (p : PassVie
   pub reply : Reply
   pub last : is.path.came ≡ front ++ Ended reply ∷ []
 
+-- some ledger has the guest as it ended a service
 abbrev pub IsServed : Key → Plan → List Module → PassView → Raw → Type 0
 IsServed k plan modules p r = (l : Ledger) × HasEnded k plan modules p r l
 

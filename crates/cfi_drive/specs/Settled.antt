@@ -29,6 +29,7 @@ log_with log (Pick policy count) = picked policy log
 log_with log (Open number address policy) = log ++ Open number address policy ∷ []
 log_with log (Cause number cause) = log ++ Cause number cause ∷ []
 
+-- a log with further entries, each added as a guest logs it
 abbrev pub log_with_all : (more : List Log) → List Log → List Log
 log_with_all more log = fold log_with log more
 

@@ -142,8 +142,8 @@ fn report_of(
     }
 }
 
-/// Takes the passes and slips back and makes the report of a run: its force, modules and journal are the loader's, its guest parts
-/// those of the runners' guests.
+/// Takes the passes and slips back and makes the report of a run: its force, modules and journal are the loader's, its
+/// guest parts those of the runners' guests.
 ///
 /// The script was made and found memory, and there is a runner for each guest of the plan, in order, whose guest has
 /// stopped. A refusal drops the loader and the runners.

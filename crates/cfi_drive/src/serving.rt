@@ -59,7 +59,8 @@ fn ask<N: LoaderName>(
     slip: &mut Slip<N>,
 ) -> Result<Loaded, LoadFault>
     requires known { argument guest.now.base < length N.plan.modules }
-    requires asks { MayAskFor desk.old (AskerGuest slip.old.guest) (Load (argument guest.now.base)) }
+    requires asks { MayAskFor desk.old (AskerGuest slip.old.guest)
+        (Load (argument guest.now.base)) }
     ensures ok { IfOk result (λ loaded. HasLoaded N.key (AskerGuest slip.old.guest)
         (argument guest.now.base) loaded desk.old desk.new) }
     ensures fault { IfErr result (λ fault. IsLoadFault N.key (AskerGuest slip.old.guest)

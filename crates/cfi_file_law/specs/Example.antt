@@ -30,6 +30,7 @@ use Rattle.cfi_verify.specs.Example.{loop_module}
 abbrev pub call_name : List ℕ
 call_name = 0x66 ∷ []
 
+-- the types of the call's module: those of the loop's
 abbrev pub call_types : List Node
 call_types = loop_module.types
 
@@ -44,9 +45,11 @@ call_records bytes = record {
 abbrev pub call_reloc : (offset : ℕ) → Reloc
 call_reloc offset = record { area = areas.Text; offset = offset; kind = JAL; symbol = Some 0; addend = pos 0 }
 
+-- its one symbol, a local one at the start of the text
 abbrev pub call_symbol : Symbol
 call_symbol = record { name = call_name; binding = bindings.Local; place = places.Text; value = 0 }
 
+-- its object, over this text, with the call's relocation at this place and so many bytes of code
 abbrev pub call_object : (text : List ℕ) → (call bytes : ℕ) → Object
 call_object text call bytes = record {
   text = text;
@@ -57,6 +60,7 @@ call_object text call bytes = record {
   records = Some (records.spelling (call_records bytes));
 }
 
+-- its module over such an object
 abbrev pub call_module : (text : List ℕ) → (call bytes : ℕ) → Module
 call_module text call bytes = record {
   object = call_object text call bytes;
@@ -76,6 +80,7 @@ call_source =
 abbrev pub call_units : (off : ℤ) → (slot : ℕ) → List CodeUnit
 call_units off slot = Load Lw 1 2 (pos 0) ∷ Jump true off ∷ Check false 1 (pos 0) slot ∷ []
 
+-- its words, where the call leads so far
 abbrev pub call_words : (off : ℤ) → List ℕ
 call_words off = flat_map words_of (call_units off 0)
 

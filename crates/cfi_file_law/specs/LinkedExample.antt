@@ -20,6 +20,7 @@ use Rattle.cfi_file_law.specs.Example.{call_name, call_symbol, call_units, call_
 abbrev pub linked_inputs : List Module
 linked_inputs = call_made ∷ call_made ∷ []
 
+-- the object's bytes, twice
 abbrev pub linked_files : List (List ℕ)
 linked_files = bytes_of call_made.object ∷ bytes_of call_made.object ∷ []
 
@@ -31,6 +32,7 @@ linked_types = make_node VOID [] ∷ make_node FUNC (0 ∷ []) ∷ make_node VOI
 abbrev pub linked_function : (offset ty : ℕ) → Function
 linked_function offset ty = record { offset = offset; length = 84; ty = ty; taken = false; name = call_name }
 
+-- the two functions, one behind the other, and their two returns
 abbrev pub linked_records : Records
 linked_records = record {
   functions = linked_function 0 1 ∷ linked_function 84 3 ∷ [];
@@ -41,9 +43,11 @@ linked_records = record {
 abbrev pub linked_units : (slot other : ℕ) → List CodeUnit
 linked_units slot other = call_units (negsuc 23) slot ++ call_units (negsuc 23) other
 
+-- the words of both, whose checks name these slots
 abbrev pub linked_words : (slot other : ℕ) → List ℕ
 linked_words slot other = flat_map words_of (linked_units slot other)
 
+-- the object that linking makes
 abbrev pub linked_object : Object
 linked_object = record {
   text = flat_map types.word (linked_words 0 1);
@@ -54,5 +58,6 @@ linked_object = record {
   records = Some (records.spelling linked_records);
 }
 
+-- and its module
 abbrev pub linked_output : Module
 linked_output = record { object = linked_object; types = linked_types; records = linked_records; cells = refl }

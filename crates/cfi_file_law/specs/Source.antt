@@ -13,6 +13,7 @@ use Rattle.rv_asm.specs.Placed.{lines_in}
 use Rattle.rv_asm.specs.Symbols.{file_in}
 use Rattle.rv_asm.specs.declared.file.File.{File}
 
+-- what the lines of a source's text say
 abbrev pub source_file : (text : List ℕ) → File
 source_file text = file_in (lines_in text)
 
@@ -24,6 +25,7 @@ has_records text = (source_file text).records
 abbrev pub source_types : (text : List ℕ) → List Node
 source_types text = nodes_of (lines_in text)
 
+-- the records that its lines say
 abbrev pub source_records : (text : List ℕ) → Records
 source_records text = record {
   functions = functions_of (source_file text).kinds (lines_in text);

@@ -12,11 +12,13 @@ use Rattle.cfi_aux.specs.declared.records.Kind.TheVariants.{Return}
 use Rattle.cfi_aux.specs.declared.records.Records.{Records}
 use Rattle.cfi_file_law.specs.Example.{call_name, call_symbol, call_types}
 
+-- the source, line by line
 abbrev pub return_source : List ℕ
 return_source =
     codes ".node void" ++ 10 ∷ codes ".node func 0" ++ 10 ∷ codes ".func f 1" ++ 10 ∷ codes "ret" ++ 10
     ∷ codes ".endfunc"
 
+-- its records
 abbrev pub return_records : Records
 return_records = record {
   functions = record { offset = 0; length = 4; ty = 1; taken = false; name = call_name } ∷ [];

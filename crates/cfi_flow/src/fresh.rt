@@ -27,7 +27,8 @@ fn is_known(known: &[u32], number: u32) -> bool
 // These numbers in order.
 fn sorted(alloc: Global, numbers: &[u32]) -> Result<Vec<u32>, AllocError>
     ensures order { IfOk result (λ sorted. IsNonDecreasing sorted.items) }
-    ensures same { IfOk result (λ sorted. (x : ℕ) → Contains sorted.items x ↔ Contains numbers.now x) }
+    ensures same { IfOk result (λ sorted. (x : ℕ)
+        → Contains sorted.items x ↔ Contains numbers.now x) }
 {
     let mut sorted = Vec::from_slice(alloc, numbers)?;
     sorted.sort_unstable();
@@ -51,7 +52,8 @@ fn others(alloc: Global, numbers: &[u32], known: &[u32]) -> Result<Vec<u32>, All
 // The edges of links, in order.
 fn sorted_edges(alloc: Global, links: &[Link]) -> Result<Vec<Edge>, AllocError>
     ensures order { IfOk result (λ sorted. CanBeSearched sorted.items) }
-    ensures same { IfOk result (λ sorted. (e : FlowEdge) → Contains sorted.items e ↔ Contains (map link_edge links.now) e) }
+    ensures same { IfOk result (λ sorted. (e : FlowEdge)
+        → Contains sorted.items e ↔ Contains (map link_edge links.now) e) }
 {
     let mut sorted = edges_of(alloc, links)?;
     sorted.sort_unstable();
@@ -120,7 +122,8 @@ fn add_fresh(
     requires sound { IsSound flow.now }
     requires known { IsSound known.now }
     requires nodes { known.now.nodes ≡ flow.now.nodes }
-    ensures { OnOk result (AddsFresh known.now flow.now flow.now.nodes edges.old.items edges.new.items) }
+    ensures { OnOk result
+        (AddsFresh known.now flow.now flow.now.nodes edges.old.items edges.new.items) }
 {
     let (rows, known_rows) = (flow_rows(alloc, flow)?, flow_rows(alloc, known)?);
     let mut marks = vec![in alloc; false; rows.arrows.count()]?;

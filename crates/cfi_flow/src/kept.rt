@@ -34,7 +34,8 @@ impl Model for KeptFlow {
 
     ghost view = { λ k. kept_of k.nodes k.pointing k.returning k.listed.items k.edges.items };
 
-    ghost invariant = { λ k. IsKeptFlow k.nodes k.pointing k.returning k.listed.items k.edges.items };
+    ghost invariant = { λ k.
+        IsKeptFlow k.nodes k.pointing k.returning k.listed.items k.edges.items };
 }
 
 // A copy of the links with further ones at the end.

@@ -28,7 +28,8 @@ impl Model for Side {
 
     ghost view = { λ s. record { arrows = s.arrows; seeds = s.seeds; tags = s.tags.items } };
 
-    ghost invariant = { λ s. IsSide (record { arrows = s.arrows; seeds = s.seeds; tags = s.tags.items }) };
+    ghost invariant = { λ s.
+        IsSide (record { arrows = s.arrows; seeds = s.seeds; tags = s.tags.items }) };
 }
 
 /// What comes back from nodes along arrows: addresses come with them, and branches against them.
@@ -177,8 +178,8 @@ impl KeptWays {
         requires returns { BeginBelow nodes returns.now }
         ensures kept { IfOk result AreKeptWays }
         ensures nodes { IfOk result (λ ways. length ways.forth.tags ≡ nodes) }
-        ensures ways { IfOk result (λ ways. AddsLongerWays self.now arrows.now sites.now returns.now ways
-            edges.old.items edges.new.items) }
+        ensures ways { IfOk result (λ ways. AddsLongerWays self.now arrows.now sites.now returns.now
+            ways edges.old.items edges.new.items) }
     {
         let turned = flipped(alloc, arrows)?;
         let (forth, mut changes) = self.forth.extended(alloc, nodes, arrows, sites)?;

@@ -20,6 +20,7 @@ abbrev pub has_some : List ℕ → Bool
 has_some [] = false
 has_some (address ∷ addresses) = true
 
+-- the branches of the group may go somewhere
 abbrev pub has_targets : Group → Bool
 has_targets group = has_some group.targets
 

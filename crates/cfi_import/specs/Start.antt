@@ -31,6 +31,7 @@ start_of m count = record {
 abbrev pub stub_offset : Start → (place : ℕ) → ℕ
 stub_offset start place = start.text + STUB_BYTES * place
 
+-- where the cell of the import of this number begins in the data
 abbrev pub cell_offset : Start → (place : ℕ) → ℕ
 cell_offset start place = start.static_data + CELL_BYTES * place
 
@@ -38,11 +39,13 @@ cell_offset start place = start.static_data + CELL_BYTES * place
 abbrev pub stub_symbol : Start → (place : ℕ) → ℕ
 stub_symbol start place = start.symbols + STUB_SYMBOLS * place
 
+-- the number of its symbol, which stands behind its stub's
 abbrev pub cell_symbol : Start → (place : ℕ) → ℕ
 cell_symbol start place = start.symbols + STUB_SYMBOLS * place + 1
 
 -- ---- relocations
 
+-- relocations of the area change the text
 abbrev pub is_in_text : Area → Bool
 is_in_text areas.Text = true
 is_in_text areas.Data = false

@@ -33,6 +33,7 @@ pub record Parts : Type 0 where
   pub functions : List Function
   pub branches : List Kind
 
+-- the parts that a module has
 abbrev pub parts_of : Module → Parts
 parts_of m = record {
   text = m.object.text;
@@ -82,6 +83,7 @@ parts_with m (one ∷ imports) =
     with_stubs_for (start_of m (length (one ∷ imports))) (place_of (one ∷ imports)) (names_of (one ∷ imports))
     (parts_of m)
 
+-- those with a stub for each import
 abbrev pub stubbed_parts : Module → Parts
 stubbed_parts m = parts_with m (imports_of m.object)
 
@@ -100,6 +102,7 @@ pub record IsStubbed (m out : Module) : Type 0 where
 
 -- ---- the limits
 
+-- how much the parts are, by what is limited
 abbrev pub part_sizes : Parts → Sizes
 part_sizes parts = record {
   symbols = length parts.symbols;

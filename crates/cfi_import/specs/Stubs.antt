@@ -40,6 +40,7 @@ stub_bytes = flat_map word (map word_of stub_insns)
 abbrev pub stub_type : Start → ℕ
 stub_type start = start.types + 1
 
+-- the two nodes of their type: void, and the function that has no parameters
 abbrev pub stub_nodes : Start → List Node
 stub_nodes start = make_node VOID [] ∷ make_node FUNC (start.types ∷ []) ∷ []
 

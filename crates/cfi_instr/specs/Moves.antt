@@ -20,12 +20,14 @@ use Rattle.cfi_instr.specs.Units.{distance}
 
 -- ---- symbols
 
+-- a value in the text moves with its unit, no other does
 abbrev pub moved_value : Words → (offsets : List ℕ) → Place → (value : ℕ) → ℕ
 moved_value t offsets places.Text value = moved t offsets value
 moved_value t offsets places.Undefined value = value
 moved_value t offsets places.Absolute value = value
 moved_value t offsets places.Data value = value
 
+-- a symbol moves with its value
 abbrev pub moved_symbol : Words → (offsets : List ℕ) → Symbol → Symbol
 moved_symbol t offsets symbol = record symbol { value = moved_value t offsets symbol.place symbol.value }
 
@@ -36,12 +38,14 @@ abbrev pub addend_to : Words → (offsets : List ℕ) → (value : ℕ) → (tar
 addend_to t offsets value None addend = addend
 addend_to t offsets value (Some target) addend = distance (moved t offsets value) (moved t offsets target)
 
+-- a place in the text that a value and an addend name moves with its unit; the addend is what is left then
 abbrev pub addend_in : Words → (offsets : List ℕ) → Place → (value : ℕ) → (addend : ℤ) → ℤ
 addend_in t offsets places.Text value addend = addend_to t offsets value (offset_from value addend) addend
 addend_in t offsets places.Undefined value addend = addend
 addend_in t offsets places.Absolute value addend = addend
 addend_in t offsets places.Data value addend = addend
 
+-- of a relocation without a symbol the addend stays
 abbrev pub addend_by : Words → (offsets : List ℕ) → Option Symbol → (addend : ℤ) → ℤ
 addend_by t offsets None addend = addend
 addend_by t offsets (Some symbol) addend = addend_in t offsets symbol.place symbol.value addend
@@ -57,9 +61,11 @@ kind_in long kind =
     if long || is_of_pair kind then JAL
     else (if kind == LO12_S then LO12_I else (if kind == PCREL_LO12_S then PCREL_LO12_I else kind))
 
+-- a relocation moves with its word; in a long branch it sits on the jump, one word later
 abbrev pub offset_in : Words → (offsets : List ℕ) → (long : Bool) → (offset : ℕ) → ℕ
 offset_in t offsets long offset = moved t offsets offset + (if long then 4 else 0)
 
+-- what becomes of a relocation with its new addend, in text and in data
 abbrev pub moved_by : Area → Words → (long : List Bool) → (offsets : List ℕ) → (addend : ℤ) → Reloc → Reloc
 moved_by areas.Text t long offsets addend reloc = record {
   area = reloc.area;
@@ -70,18 +76,21 @@ moved_by areas.Text t long offsets addend reloc = record {
 }
 moved_by areas.Data t long offsets addend reloc = record reloc { addend = addend }
 
+-- what becomes of a relocation
 abbrev pub moved_reloc : Words → List Symbol → (long : List Bool) → (offsets : List ℕ) → Reloc → Reloc
 moved_reloc t symbols long offsets reloc =
     moved_by reloc.area t long offsets (addend_by t offsets (named_symbol symbols reloc) reloc.addend) reloc
 
 -- ---- records
 
+-- a function begins and ends where its words have gone
 abbrev pub moved_function : Words → (offsets : List ℕ) → Function → Function
 moved_function t offsets f = record f {
   offset = moved t offsets f.offset;
   length = moved t offsets (byte_end f) - moved t offsets f.offset;
 }
 
+-- the entries of a switch move with their units; all else stays
 abbrev pub moved_kind : Words → (offsets : List ℕ) → Kind → Kind
 moved_kind t offsets (kinds.Switch entries) = kinds.Switch (map (moved t offsets) entries)
 moved_kind t offsets (kinds.Call node) = kinds.Call node

@@ -34,10 +34,12 @@ branch_reaches t symbols offsets w (insns.Branch cond rs1 rs2 off) =
     reaches offsets w (aim_of_jump t symbols w off)
 branch_reaches t symbols offsets w insn = true
 
+-- an instruction that is a branch reaches its target, any other is content
 abbrev pub insn_reaches : Words → List Symbol → (offsets : List ℕ) → (w : ℕ) → Option Insn → Bool
 insn_reaches t symbols offsets w None = true
 insn_reaches t symbols offsets w (Some insn) = branch_reaches t symbols offsets w insn
 
+-- so does that of a word
 abbrev pub word_reaches : Words → List Symbol → (offsets : List ℕ) → (w : ℕ) → Bool
 word_reaches t symbols offsets w = insn_reaches t symbols offsets w (insn_at t w)
 

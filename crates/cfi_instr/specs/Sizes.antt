@@ -23,6 +23,7 @@ item_size long (insns.Jalr rd rs1 imm) = CHECK_WORDS
 item_size long (insns.Branch cond rs1 rs2 off) = if long then LONG_WORDS else 1
 item_size long insn = 1
 
+-- the words of a unit; none where no item begins
 abbrev pub size_by : (long : Bool) → Option Insn → ℕ
 size_by long None = 0
 size_by long (Some insn) = item_size long insn
@@ -39,6 +40,7 @@ words_before t long w = total_of (size_at t long) w
 abbrev pub offset_of : Words → (long : List Bool) → (w : ℕ) → ℕ
 offset_of t long w = 4 * words_before t long w
 
+-- where the units of all words begin, and where the last one ends
 abbrev pub offsets_of : Words → (long : List Bool) → List ℕ
 offsets_of t long = map (offset_of t long) (range_with_len 0 (count_of t + 1))
 

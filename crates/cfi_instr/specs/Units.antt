@@ -55,6 +55,7 @@ off_of (insns.Branch cond rs1 rs2 off) = off
 off_of (insns.Jal rd off) = off
 off_of insn = pos 0
 
+-- an instruction as one unit, with what it leads to as far away as the output has it
 abbrev pub short_unit : Words → List Symbol → (offsets : List ℕ) → (w : ℕ) → Insn → CodeUnit
 short_unit t symbols offsets w insn =
     let off = off_of insn in
@@ -65,13 +66,16 @@ abbrev pub over : Insn → CodeUnit
 over (insns.Branch cond rs1 rs2 off) = units.Branch (inverse cond) rs1 rs2 (pos 8)
 over insn = units.Plain insn
 
+-- the jump of a long branch, one word behind its start
 abbrev pub long_jump : Words → List Symbol → (offsets : List ℕ) → (w : ℕ) → Insn → CodeUnit
 long_jump t symbols offsets w insn =
     units.Jump false (displacement_from t symbols offsets w (slice_index offsets w + 4) (off_of insn) (pos 0))
 
+-- the word's instruction is a branch, and long
 abbrev pub is_wide : (long : List Bool) → (w : ℕ) → Insn → Bool
 is_wide long w insn = is_long long w && is_branch insn
 
+-- the units of an item: a long branch is one over a jump, all else one unit
 abbrev pub insn_units : Words → List Symbol → (long : List Bool) → (offsets : List ℕ) → (w : ℕ) → Option Insn
     → List CodeUnit
 insn_units t symbols long offsets w None = []

@@ -76,7 +76,8 @@ pub fn offsets_of(alloc: Global, source: &Source, long: &[bool]) -> Result<Vec<u
     requires { 4 * count_of source.now < 2 ^ 32 }
     ensures ok { IfOk result (λ offsets. offsets.items ≡ offsets_of source.now long.now) }
     ensures small { IfOk result (λ offsets. AreSmall offsets.items) }
-    ensures fits { IfOk result (λ _. words_before source.now long.now (count_of source.now) ≤ MAX_WORDS) }
+    ensures fits { IfOk result (λ _. words_before source.now long.now (count_of source.now)
+        ≤ MAX_WORDS) }
     ensures fault { IfErr result (IsOver source.now long.now) }
 {
     let count = source.count();

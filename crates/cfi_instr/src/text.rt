@@ -32,7 +32,8 @@ fn put_insn(
     requires fits { AreUnits
         (insn_units source.now symbols.now long.now offsets.now w (Some insn)) }
     ensures { OnOk result (out.new.items ≡ out.old.items
-        ++ flat_map words_of (insn_units source.now symbols.now long.now offsets.now w (Some insn))) }
+        ++ flat_map words_of
+        (insn_units source.now symbols.now long.now offsets.now w (Some insn))) }
 {
     if is_wide(long, w, insn) {
         spell(&over(insn), out)?;

@@ -29,6 +29,7 @@ shelf_fails shelf = shelf.calls.fails.items
 abbrev pub shelf_faults : MemShelf → ℕ
 shelf_faults shelf = shelf.calls.faults
 
+-- a shelf has counted its calls that were to fail
 abbrev pub shelf_misses : MemShelf → ℕ
 shelf_misses shelf = shelf.misses
 
@@ -61,5 +62,6 @@ shelf_seen shelf = record {
   last = shelf_last shelf;
 }
 
+-- what can be seen of a sink in memory
 abbrev pub sink_seen : MemSink → SinkView
 sink_seen sink = record { written = Some (bytes_held sink); faults = sink_faults sink }

@@ -26,11 +26,14 @@ pub trait Shelf {
         ensures within { IfOk result (λ bytes. vec_len bytes ≤ MAX_FILE_BYTES) }
         ensures ok { IfOk result (λ bytes.
             WhereTold (seen self.old).files (λ told. told name.now ≡ Some bytes.items)) }
-        ensures failed { IsErrOf result Failed → Rose (seen self.old).faults (seen self.new).faults }
-        ensures absent { IsErrOf result Absent → Rose (seen self.old).misses (seen self.new).misses }
+        ensures failed { IsErrOf result Failed
+            → Rose (seen self.old).faults (seen self.new).faults }
+        ensures absent { IsErrOf result Absent
+            → Rose (seen self.old).misses (seen self.new).misses }
         ensures lacks { IsErrOf result Absent →
             WhereTold (seen self.old).files (λ told. told name.now ≡ None) }
-        ensures too_long { IsErrOf result TooLong → Rose (seen self.old).misses (seen self.new).misses }
+        ensures too_long { IsErrOf result TooLong
+            → Rose (seen self.old).misses (seen self.new).misses }
         ensures exceeds { IsErrOf result TooLong → WhereTold (seen self.old).files (λ told.
             IsSomeAnd (told name.now) (λ bytes. MAX_FILE_BYTES < length bytes)) }
         ensures same { (seen self.new).files ≡ (seen self.old).files }
@@ -45,9 +48,11 @@ pub trait Shelf {
     fn write(&mut self, name: &str, bytes: &[u8]) -> Result<(), ShelfFault>
         ensures ok { OnOk result
             (WhereKeptTold (seen self.old).files (seen self.new).files (Puts name.now bytes.now)) }
-        ensures failed { IsErrOf result Failed → Rose (seen self.old).faults (seen self.new).faults }
+        ensures failed { IsErrOf result Failed
+            → Rose (seen self.old).faults (seen self.new).faults }
         ensures part { IsErrOf result Failed →
-            WhereKeptTold (seen self.old).files (seen self.new).files (PutsPart name.now bytes.now) }
+            WhereKeptTold (seen self.old).files (seen self.new).files
+            (PutsPart name.now bytes.now) }
         ensures memory { IsErrOf result Memory → (seen self.new).files ≡ (seen self.old).files }
         ensures no_absent { IsErrOf result Absent → ⊥ }
         ensures no_too_long { IsErrOf result TooLong → ⊥ }

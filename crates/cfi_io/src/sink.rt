@@ -19,8 +19,10 @@ pub trait Sink {
     ///
     /// `Failed` where the sink failed: some of the bytes were appended, from the first on. `Memory`: none was.
     fn write(&mut self, bytes: &[u8]) -> Result<(), SinkFault>
-        ensures ok { OnOk result (Appends (seen self.old).written (seen self.new).written bytes.now) }
-        ensures failed { IsErrOf result Failed → Rose (seen self.old).faults (seen self.new).faults }
+        ensures ok { OnOk result
+            (Appends (seen self.old).written (seen self.new).written bytes.now) }
+        ensures failed { IsErrOf result Failed
+            → Rose (seen self.old).faults (seen self.new).faults }
         ensures part { IsErrOf result Failed →
             AppendsPrefix (seen self.old).written (seen self.new).written bytes.now }
         ensures memory { IsErrOf result Memory → (seen self.new).written ≡ (seen self.old).written }

@@ -26,6 +26,7 @@ pub record Input : Type 0 where
   pub functions : List Function
   pub branches : List Kind
 
+-- the input that a module with these words is
 abbrev pub input_by : Words → Module → Input
 input_by words m = record {
   words = words;
@@ -35,6 +36,7 @@ input_by words m = record {
   branches = m.records.branches;
 }
 
+-- the input that a module is
 abbrev pub input_of : Module → Input
 input_of m = input_by (read_words m.object) m
 
@@ -89,6 +91,7 @@ pub record IsInstrumentable (p : Input) : Type 0 where
 abbrev pub word_place : (w : ℕ) → Option Insn → ℕ
 word_place w insn = 4 * w
 
+-- the number of the branch at a word
 abbrev pub jump_number : Words → (w : ℕ) → Option Insn → ℕ
 jump_number t w insn = ordinal_of t w
 
@@ -96,16 +99,20 @@ jump_number t w insn = ordinal_of t w
 abbrev pub IsFirstWord : Words → (P : ℕ → Option Insn → Type 0) → (offset : ℕ) → Type 0
 IsFirstWord t P offset = IsFirstBreak t.insns word_place P offset
 
+-- the first item that names a register which is kept free
 abbrev pub IsFirstReserved : Words → (offset : ℕ) → Type 0
 IsFirstReserved t o = Each t.insns IsInsn × IsFirstWord t (OfInsn NamesFree) o
 
+-- the first that is no trap of those taken, where none is reserved
 abbrev pub IsFirstTrap : Words → (offset : ℕ) → Type 0
 IsFirstTrap t o = Each t.insns IsInsn × Each t.insns (OfInsn NamesFree) × IsFirstWord t (OfInsn IsNoTrap) o
 
+-- the first that links another register than it may, where none breaks a rule before
 abbrev pub IsFirstBadLink : Words → (offset : ℕ) → Type 0
 IsFirstBadLink t o = Each t.insns IsInsn × Each t.insns (OfInsn NamesFree) × Each t.insns (OfInsn IsNoTrap)
     × IsFirstWord t (OfInsn LinksWell) o
 
+-- the first relocation that is out of its place
 abbrev pub IsFirstBadReloc : Input → (k : ℕ) → Type 0
 IsFirstBadReloc p k = HasGoodWords p.words
     × IsFirstBreak p.relocs own_number (IsRelocPlacedBehind p.words p.symbols p.functions p.relocs) k
@@ -115,9 +122,11 @@ abbrev pub IsFirstMalformed : Words → List Function → (k : ℕ) → Type 0
 IsFirstMalformed t functions k = IsFirstBreak functions own_number (IsFormedBehind t functions) k
     ⊎ ((k ≡ length functions) × Each functions (IsFormedBehind t functions) × ¬ EndsInPadding t functions)
 
+-- the first function that is malformed, where relocations are in place
 abbrev pub IsFirstBadFunction : Input → (k : ℕ) → Type 0
 IsFirstBadFunction p k = HasGoodWords p.words × HasGoodRelocs p × IsFirstMalformed p.words p.functions k
 
+-- the first item that leads where it may not, where functions are well formed
 abbrev pub IsFirstLost : Input → (offset : ℕ) → Type 0
 IsFirstLost p o = HasGoodShape p × IsFirstWord p.words (WordLeadsWell p.words p.symbols p.functions) o
 
@@ -126,13 +135,16 @@ abbrev pub IsFirstBare : Words → List Kind → (offset : ℕ) → Type 0
 IsFirstBare t branches o = IsFirstWord t (HasRecord t branches) o
     ⊎ ((o ≡ 4 * count_of t) × Each t.insns (HasRecord t branches) × ¬ AreUsed t branches)
 
+-- the first indirect jump without a fitting branch, where all lead well
 abbrev pub IsFirstUnkind : Input → (offset : ℕ) → Type 0
 IsFirstUnkind p o = HasGoodShape p × HasGoodTargets p × IsFirstBare p.words p.branches o
 
+-- the first switch with an entry elsewhere, where each indirect jump has its branch
 abbrev pub IsFirstBadSwitch : Input → (k : ℕ) → Type 0
 IsFirstBadSwitch p k = HasGoodJumps p
     × IsFirstBreak p.words.insns (jump_number p.words) (SwitchFits p.words p.functions p.branches) k
 
+-- the first function that falls through, where all else is well
 abbrev pub IsFirstFalling : Input → (k : ℕ) → Type 0
 IsFirstFalling p k =
     HasGoodJumps p × HasGoodSwitches p × IsFirstBreak p.functions own_number (EndsInJump p.words) k

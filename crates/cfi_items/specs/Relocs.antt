@@ -21,6 +21,7 @@ use Rattle.cfi_items.specs.Target.{offset_from, named_symbol}
 abbrev pub IsLowOfI : (kind : ℕ) → Type 0
 IsLowOfI kind = (kind ≡ PCREL_LO12_I) ⊎ (kind ≡ LO12_I)
 
+-- the kind is the low part of a store's address
 abbrev pub IsLowOfS : (kind : ℕ) → Type 0
 IsLowOfS kind = (kind ≡ PCREL_LO12_S) ⊎ (kind ≡ LO12_S)
 
@@ -41,6 +42,7 @@ abbrev pub FitsAs : (of_pair : Bool) → Words → (kind w : ℕ) → Type 0
 FitsAs true t kind w = is_pair t w ≡ true
 FitsAs false t kind w = (insn : Insn) × (insn_at t w ≡ Some insn) × HasFieldOf kind insn
 
+-- a relocation of the kind fits on the word, or on the pair that begins there
 abbrev pub FitsOn : Words → (kind w : ℕ) → Type 0
 FitsOn t kind w = FitsAs (is_of_pair kind) t kind w
 

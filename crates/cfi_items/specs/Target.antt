@@ -16,6 +16,7 @@ abbrev pub offset_from : (at : ℕ) → ℤ → Option ℕ
 offset_from at (pos n) = Some (at + n)
 offset_from at (negsuc n) = if nat_lt n at then Some (at - (n + 1)) else None
 
+-- the aim that an offset is; what has none is astray
 abbrev pub aim_by : Option ℕ → Aim
 aim_by None = aims.Astray
 aim_by (Some offset) = aims.Offset offset
@@ -28,12 +29,14 @@ named_symbol symbols reloc = option_and_then (λ k. slice_get symbols k) reloc.s
 abbrev pub aim_at_name : (addend : ℤ) → Aim
 aim_at_name addend = if is_zero addend then aims.Name else aims.Astray
 
+-- where a symbol's place, its value and an addend lead
 abbrev pub aim_at_symbol : Place → (value : ℕ) → (addend : ℤ) → Aim
 aim_at_symbol places.Text value addend = aim_by (offset_from value addend)
 aim_at_symbol places.Undefined value addend = aim_at_name addend
 aim_at_symbol places.Absolute value addend = aims.Astray
 aim_at_symbol places.Data value addend = aims.Astray
 
+-- where a relocation's symbol and its addend lead
 abbrev pub aim_through : Option Symbol → (addend : ℤ) → Aim
 aim_through None addend = aims.Astray
 aim_through (Some symbol) addend = aim_at_symbol symbol.place symbol.value addend
@@ -47,6 +50,7 @@ abbrev pub aim_under : List Symbol → Option Reloc → (plain : Option ℕ) →
 aim_under symbols None plain = aim_by plain
 aim_under symbols (Some reloc) plain = aim_of symbols reloc
 
+-- where the direct jump of a word leads, under the relocation that sits there
 abbrev pub aim_of_jump : Words → List Symbol → (w : ℕ) → (off : ℤ) → Aim
 aim_of_jump t symbols w off = aim_under symbols (reloc_on t w) (offset_from (4 * w) off)
 

@@ -18,9 +18,11 @@ pub record Words : Type 0 where
   pub relocs : List (Option Reloc)
   pub calls : List (Option Reloc)
 
+-- words, of what is read of each
 abbrev pub words_by : (insns : List (Option Insn)) (relocs calls : List (Option Reloc)) → Words
 words_by insns relocs calls = record { insns = insns; relocs = relocs; calls = calls }
 
+-- the relocation changes the text
 abbrev pub is_of_text : Area → Bool
 is_of_text areas.Text = true
 is_of_text areas.Data = false
@@ -34,6 +36,7 @@ sits_on calling w reloc =
 abbrev pub first_on : (calling : Bool) → List Reloc → (w : ℕ) → Option Reloc
 first_on calling relocs w = find (sits_on calling w) relocs
 
+-- the first relocation on each word, of those that call or of all
 abbrev pub firsts_on : (calling : Bool) → List Reloc → (count : ℕ) → List (Option Reloc)
 firsts_on calling relocs count = map (first_on calling relocs) (range_with_len 0 count)
 
@@ -51,12 +54,15 @@ read_words object =
     let count = length object.text / 4 in
     words_by (insns_in object.text) (firsts_on false object.relocs count) (firsts_on true object.relocs count)
 
+-- the instruction of a word
 abbrev pub insn_at : Words → (w : ℕ) → Option Insn
 insn_at t w = slice_index_or t.insns w None
 
+-- the first relocation on it
 abbrev pub reloc_on : Words → (w : ℕ) → Option Reloc
 reloc_on t w = slice_index_or t.relocs w None
 
+-- the first that calls
 abbrev pub call_on : Words → (w : ℕ) → Option Reloc
 call_on t w = slice_index_or t.calls w None
 

@@ -14,7 +14,8 @@ use std::alloc::Global;
 fn check_words(source: &Source) -> Result<(), InstrFault>
     requires { 4 * count_of source.now < 2 ^ 32 }
     ensures ok { OnOk result (HasGoodWords source.now) }
-    ensures fault { IfErr result (λ fault. (m : Module) → IsFirstFlaw (input_by source.now m) fault) }
+    ensures fault { IfErr result (λ fault. (m : Module)
+        → IsFirstFlaw (input_by source.now m) fault) }
 {
     if let Some(w) = source.first_illegal() {
         return Err(InstrFault::Illegal(4 * w as u32));

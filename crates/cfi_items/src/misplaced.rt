@@ -80,7 +80,8 @@ impl Source {
 
     // Whether the symbol that a relocation names, if there is one, leads so.
     fn names_well(&self, symbols: &[Symbol], reloc: &Reloc) -> bool
-        ensures { result ≡ names_well self.now (named_symbol symbols.now reloc.now) reloc.now.addend }
+        ensures { result
+            ≡ names_well self.now (named_symbol symbols.now reloc.now) reloc.now.addend }
     {
         match named_symbol(symbols, reloc) {
             Some(symbol) => self.leads_to_bound(symbol.place, symbol.value, reloc.addend),

@@ -12,10 +12,12 @@ use Rattle.cfi_link.specs.declared.fault.LinkFault.{LinkFault}
 use Rattle.cfi_link.specs.declared.fault.LinkFault.TheVariants.{BadReloc}
 use Rattle.cfi_link.specs.declared.joined.OwnReloc.{OwnReloc}
 
+-- relocations of the area change the text
 abbrev pub is_in_text : Area → Bool
 is_in_text areas.Text = true
 is_in_text areas.Data = false
 
+-- the relocation is that of a branch or of a jump
 abbrev pub is_jump : Reloc → Bool
 is_jump reloc = is_in_text reloc.area && (reloc.kind == BRANCH || reloc.kind == JAL)
 
@@ -51,9 +53,11 @@ applied_from reaches (own ∷ relocs) text =
 abbrev pub renumbered : (numbers : List ℕ) → Reloc → Reloc
 renumbered numbers reloc = record reloc { symbol = option_map (λ k. slice_index numbers k) reloc.symbol }
 
+-- it is not applied, since it leads nowhere in the joined text
 abbrev pub is_kept : List (Option ℕ) → OwnReloc → Bool
 is_kept reaches own = is_none (target_of reaches own.reloc)
 
+-- those that are kept, with the numbers that their symbols get
 abbrev pub kept_in : List (Option ℕ) → (numbers : List ℕ) → List OwnReloc → List Reloc
 kept_in reaches numbers relocs = map (λ own. renumbered numbers own.reloc) (filter (is_kept reaches) relocs)
 

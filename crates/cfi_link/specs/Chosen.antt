@@ -14,11 +14,13 @@ use Rattle.cfi_place.specs.Names.{Names, first_in}
 
 -- ---- definitions
 
+-- the binding is weak
 abbrev pub is_weak : Binding → Bool
 is_weak bindings.Weak = true
 is_weak bindings.Local = false
 is_weak bindings.Global = false
 
+-- it is local
 abbrev pub is_local : Binding → Bool
 is_local bindings.Local = true
 is_local bindings.Global = false
@@ -28,9 +30,11 @@ is_local bindings.Weak = false
 abbrev pub defines_global : Symbol → Bool
 defines_global s = is_global_binding s.binding && is_defined s.place
 
+-- a weak definition
 abbrev pub defines_weak : Symbol → Bool
 defines_weak s = is_weak s.binding && is_defined s.place
 
+-- a definition that other modules may name
 abbrev pub is_definition : Symbol → Bool
 is_definition s = is_exported s.binding && is_defined s.place
 
@@ -42,6 +46,7 @@ names_with test symbols = map (λ s. (s.1.name, s.0)) (filter (λ s. test s.1) (
 abbrev pub global_in : List Symbol → Names
 global_in symbols name = first_in (names_with defines_global symbols) name
 
+-- the first weak definition of each name
 abbrev pub weak_in : List Symbol → Names
 weak_in symbols name = first_in (names_with defines_weak symbols) name
 
@@ -59,6 +64,7 @@ twice_from before [] = None
 twice_from before (s ∷ symbols) =
     if is_second (global_in before) s then Some s.name else twice_from (before ++ s ∷ []) symbols
 
+-- the name of the first global definition of one that an earlier one defines
 abbrev pub twice_in : List Symbol → Option (List ℕ)
 twice_in symbols = twice_from [] symbols
 
@@ -73,10 +79,12 @@ is_at (Some number) k = number == k
 abbrev pub loses : (chosen : Names) → ℕ × Symbol → Bool
 loses chosen (k, s) = is_definition s && not (is_at (chosen s.name) k)
 
+-- a definition that is not chosen becomes a reference; any other symbol stays
 abbrev pub settled_symbol : (chosen : Names) → ℕ × Symbol → Symbol
 settled_symbol chosen (k, s) =
     if loses chosen (k, s) then record s { place = places.Undefined; value = 0 } else s
 
+-- all symbols so, by their numbers
 abbrev pub settled : (chosen : Names) → List Symbol → List Symbol
 settled chosen symbols = map (settled_symbol chosen) (enumerate_from 0 symbols)
 
@@ -84,6 +92,7 @@ settled chosen symbols = map (settled_symbol chosen) (enumerate_from 0 symbols)
 abbrev pub is_local_symbol : Symbol → Bool
 is_local_symbol s = is_local s.binding
 
+-- local symbols first, each part in its order
 abbrev pub in_order : List Symbol → List Symbol
 in_order symbols = filter is_local_symbol symbols ++ filter (λ s. not (is_local_symbol s)) symbols
 
@@ -94,6 +103,7 @@ numbers_from local other (s ∷ symbols) =
     if is_local_symbol s then local ∷ numbers_from (local + 1) other symbols
     else other ∷ numbers_from local (other + 1) symbols
 
+-- the number that each symbol has then
 abbrev pub numbers_of : List Symbol → List ℕ
 numbers_of symbols = numbers_from 0 (count_by is_local_symbol symbols) symbols
 
@@ -106,6 +116,7 @@ text_value_at places.Data value = None
 text_value_at places.Absolute value = None
 text_value_at places.Undefined value = None
 
+-- the place in the text that a symbol has, if it has one
 abbrev pub text_value : Symbol → Option ℕ
 text_value s = text_value_at s.place s.value
 
@@ -120,8 +131,10 @@ reach_at symbols chosen name places.Text value = Some value
 reach_at symbols chosen name places.Data value = None
 reach_at symbols chosen name places.Absolute value = None
 
+-- where a symbol leads in the text: by itself, or by the chosen definition of its name
 abbrev pub reach_of : List Symbol → (chosen : Names) → Symbol → Option ℕ
 reach_of symbols chosen s = reach_at symbols chosen s.name s.place s.value
 
+-- so of each symbol, once all are settled
 abbrev pub reaches_of : (chosen : Names) → List Symbol → List (Option ℕ)
 reaches_of chosen symbols = map (reach_of symbols chosen) (settled chosen symbols)

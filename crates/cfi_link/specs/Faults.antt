@@ -49,6 +49,7 @@ sizes_of joined = record {
   branches = length joined.branches;
 }
 
+-- this limit, where the number is above it, and else what comes next
 abbrev pub unless_above : (limit number : ℕ) → Limit → Option Limit → Option Limit
 unless_above limit number what next = if nat_le number limit then next else Some what
 
@@ -74,6 +75,7 @@ abbrev pub relocated_by : Joined → Result (List ℕ) LinkFault
 relocated_by joined =
     applied_from (reaches_of (chosen_in joined.symbols) joined.symbols) joined.relocs joined.text
 
+-- the words of the joined text under the relocations that are applied, or the first fault of one
 abbrev pub relocated_in : List Module → Result (List ℕ) LinkFault
 relocated_in modules = relocated_by (joined_of modules)
 
@@ -94,6 +96,7 @@ pub record IsAfter (A B : Type 0) : Type 0 where
   pub earlier : A
   pub here : B
 
+-- each fault, where none of those before it stands
 abbrev pub IsFirstLinkFault : List Module → LinkFault → Type 0
 IsFirstLinkFault modules faults.NoText = has_text modules ≡ false
 IsFirstLinkFault modules (faults.NotUnit number offset) =

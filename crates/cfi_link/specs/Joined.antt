@@ -30,6 +30,7 @@ pub record Joined : Type 0 where
   pub branches : List Kind
   pub count : ℕ
 
+-- no modules, joined
 abbrev pub nothing : Joined
 nothing = record {
   text = [];
@@ -66,6 +67,7 @@ value_at start places.Absolute value = value
 value_at start places.Text value = start.text + value
 value_at start places.Data value = start.static_data + value
 
+-- a symbol behind what stands
 abbrev pub symbol_at : Start → Symbol → Symbol
 symbol_at start symbol = record symbol { value = value_at start symbol.place symbol.value }
 
@@ -74,22 +76,27 @@ abbrev pub offset_at : Start → Area → (offset : ℕ) → ℕ
 offset_at start areas.Text offset = start.text + offset
 offset_at start areas.Data offset = start.static_data + offset
 
+-- a relocation behind it
 abbrev pub reloc_at : Start → Reloc → Reloc
 reloc_at start reloc = record reloc {
   offset = offset_at start reloc.area reloc.offset;
   symbol = option_map (λ k. start.symbols + k) reloc.symbol;
 }
 
+-- the same with the numbers of its module and of itself there
 abbrev pub own_reloc_at : Start → (owner : ℕ) → ℕ × Reloc → OwnReloc
 own_reloc_at start owner (number, reloc) =
     record { owner = owner; number = number; reloc = reloc_at start reloc }
 
+-- a node behind it
 abbrev pub node_at : Start → Node → Node
 node_at start node = make_node node.kind (numbers_of node ++ map (λ k. start.types + k) (nodes_of node))
 
+-- a function behind it
 abbrev pub function_at : Start → Function → Function
 function_at start f = record f { offset = shifted start.text f.offset; ty = shifted start.types f.ty }
 
+-- a branch's kind behind it
 abbrev pub branch_at : Start → Kind → Kind
 branch_at start (branches.Call node) = branches.Call (shifted start.types node)
 branch_at start (branches.Tail node) = branches.Tail (shifted start.types node)

@@ -53,7 +53,8 @@ fn apply_to(text: &mut [u8], target: Option<u32>, reloc: &Reloc) -> Result<(), R
 //
 // `BadReloc` for the first that can not be applied; the text is then of no use.
 fn apply_all(text: &mut [u8], reaches: &[Option<u32>], relocs: &[OwnReloc]) -> Result<(), LinkFault>
-    requires { All (λ own. CanBeApplied (target_of reaches.now own.reloc) (length text.old) own.reloc)
+    requires { All (λ own.
+        CanBeApplied (target_of reaches.now own.reloc) (length text.old) own.reloc)
         relocs.now }
     ensures ok { OnOk result (applied_from reaches.now relocs.now text.old ≡ Ok text.new) }
     ensures fault { IfErr result (IsRelocFault (applied_from reaches.now relocs.now text.old)) }
@@ -74,9 +75,11 @@ pub fn applied_text(
     reaches: &[Option<u32>],
     relocs: &[OwnReloc],
 ) -> Result<Vec<u8>, LinkFault>
-    requires { All (λ own. CanBeApplied (target_of reaches.now own.reloc) (length source.now) own.reloc)
+    requires { All (λ own.
+        CanBeApplied (target_of reaches.now own.reloc) (length source.now) own.reloc)
         relocs.now }
-    ensures ok { IfOk result (λ text. applied_from reaches.now relocs.now source.now ≡ Ok text.items) }
+    ensures ok { IfOk result (λ text. applied_from reaches.now relocs.now source.now
+        ≡ Ok text.items) }
     ensures size { IfOk result (λ text. length text.items ≡ length source.now) }
     ensures fault { IfErr result (IsRelocFault (applied_from reaches.now relocs.now source.now)) }
 {

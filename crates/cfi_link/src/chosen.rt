@@ -45,7 +45,8 @@ impl Definitions {
         ensures weaks { OnOk result (self.new.weaks ≡ self.old.weaks) }
         ensures once { OnOk result (is_some (find_in self.old.globals symbol.now.name) ≡ false) }
         ensures fault { IfErr result (λ fault. IsTwice fault
-            (if is_some (find_in self.old.globals symbol.now.name) then Some symbol.now.name else None)) }
+            (if is_some (find_in self.old.globals symbol.now.name) then Some symbol.now.name
+            else None)) }
     {
         let name = symbol.name.as_str();
         if self.globals.find(name).is_some() {
@@ -66,7 +67,8 @@ impl Definitions {
             (find_in self.old.weaks) name) }
         ensures once { OnOk result (is_second (find_in self.old.globals) symbol.now ≡ false) }
         ensures fault { IfErr result (λ fault. IsTwice fault
-            (if is_second (find_in self.old.globals) symbol.now then Some symbol.now.name else None)) }
+            (if is_second (find_in self.old.globals) symbol.now then Some symbol.now.name
+            else None)) }
     {
         if symbol.place == Place::Undefined {
             return Ok(());

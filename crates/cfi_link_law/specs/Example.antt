@@ -32,6 +32,7 @@ bare_object text types parts = record {
 abbrev pub loop_records : Records
 loop_records = record { functions = loop_at 0 1 ∷ []; branches = [] }
 
+-- the module of one such word
 abbrev pub loop_source : Module
 loop_source = record {
   object = bare_object (0x6f ∷ 0 ∷ 0 ∷ 0 ∷ []) loop_module.types loop_records;
@@ -44,9 +45,11 @@ loop_source = record {
 abbrev pub two_types : List Node
 two_types = make_node VOID [] ∷ make_node FUNC (0 ∷ []) ∷ make_node VOID [] ∷ make_node FUNC (2 ∷ []) ∷ []
 
+-- the functions of both
 abbrev pub two_records : Records
 two_records = record { functions = loop_at 0 1 ∷ loop_at 4 3 ∷ []; branches = [] }
 
+-- the module that linking makes of two
 abbrev pub two_linked : Module
 two_linked = record {
   object = bare_object (0x6f ∷ 0 ∷ 0 ∷ 0 ∷ 0x6f ∷ 0 ∷ 0 ∷ 0 ∷ []) two_types two_records;
@@ -59,9 +62,11 @@ two_linked = record {
 abbrev pub second_module : Placed
 second_module = record loop_module { base = FIRST_BASE + 1 }
 
+-- a function of one word at its place
 abbrev pub placed_at : (first ty : ℕ) → PlacedFunction
 placed_at first ty = record { first = first; count = 1; ty = ty; taken = false; global = false; name = [] }
 
+-- the linked module at the first place
 abbrev pub two_module : Placed
 two_module = record {
   base = FIRST_BASE;

@@ -8,5 +8,6 @@ use Rattle.cfi_link.specs.Applied.{by_area}
 abbrev pub object_of_file : Object → Object
 object_of_file object = record object { relocs = by_area object.relocs }
 
+-- the module, with its object as the file has it
 abbrev pub module_of_file : Module → Module
 module_of_file m = record m { object = object_of_file m.object; cells = m.cells }

@@ -27,6 +27,7 @@ kept_by code_words kept access =
     if access.word == EPOCH then None else
     (if nat_le (bary_word code_words 0) access.word then Some access.found else kept)
 
+-- what is kept after all of these loads
 abbrev pub kept_after : (code_words : ℕ) → (kept : Option ℕ) → List Access → Option ℕ
 kept_after code_words kept [] = kept
 kept_after code_words kept (access ∷ later) = kept_after code_words (kept_by code_words kept access) later
@@ -43,6 +44,7 @@ abbrev pub next_answer : List Reply → List Take
 next_answer [] = []
 next_answer (reply ∷ later) = Served reply ∷ []
 
+-- the end of the service in which a guest waits: an open brings the next reply, if its guest may log one more
 abbrev pub ended_by : Option Wait → Raw → List Reply → List Take
 ended_by (Some (waits.Service number)) r replies =
     if number == OPEN
@@ -55,6 +57,7 @@ abbrev pub later_answers : List Reply → List Reply
 later_answers [] = []
 later_answers (reply ∷ later) = later
 
+-- the replies that are left then
 abbrev pub left_by : Option Wait → Raw → List Reply → List Reply
 left_by (Some (waits.Service number)) r replies =
     if number == OPEN
@@ -68,6 +71,7 @@ taken_by r replies access =
     let now = take_one r (Word access.found) in
     if access.word == EPOCH then [] else Word access.found ∷ ended_by now.waits now replies
 
+-- those that are left after a load: a quiescent point takes none
 abbrev pub left_after : Raw → List Reply → Access → List Reply
 left_after r replies access =
     let now = take_one r (Word access.found) in
@@ -99,6 +103,7 @@ FindsWord h code (Some (waits.Bary slot rd)) r access =
     (access.word ≡ bary_word (length code) slot) × IsBaryWord h slot access.found
 FindsWord h code (Some (waits.Service number)) r access = ⊥
 
+-- what a load finds fits the raw machine; at a quiescent point outside of checks it is EPOCH's
 abbrev pub Finds : History → (code : List ℕ) → Raw → Access → Type 0
 Finds h code r access =
     ((access.word ≡ EPOCH) × (r.bary ≡ None)) ⊎ FindsWord h code r.waits r access

@@ -81,6 +81,7 @@ pub data Area : Type 0 where
 abbrev pub is_in_range : (first bytes address : ℕ) → Bool
 is_in_range first bytes address = nat_le first address && nat_lt address (first + bytes)
 
+-- where an address lies: in private data, in a table, or nowhere
 abbrev pub area_of : ℕ → Area
 area_of address =
     if is_in_range DATA_START DATA_BYTES address then Private (address - DATA_START) else
@@ -116,6 +117,7 @@ store_private kind offset value r =
     then ran (next r) 1 (record r { base = record r.base { memory = memory_stored kind r.base.memory offset value } })
     else stopped (stops.Align (DATA_START + offset)) r
 
+-- a store changes private data alone
 abbrev pub store_at : Area → StoreKind → (value : ℕ) → Raw → Raw
 store_at (Private offset) kind value r = store_private kind offset value r
 store_at _ kind value r = r
@@ -158,6 +160,7 @@ abbrev pub begin_by : Option Insn → Raw → Raw
 begin_by None r = r
 begin_by (Some insn) r = begin_as insn r
 
+-- what an instruction makes of a state, by its word
 abbrev pub begin_of : Raw → (word : ℕ) → Raw
 begin_of r word = begin_by (insn_of word) r
 
@@ -172,6 +175,7 @@ load_act (TaryId address) kind =
 load_act (BaryId slot) kind = if reads_table kind then acts.Need (BARY + 4 * slot) else acts.Done
 load_act Nothing kind = acts.Done
 
+-- a store traps where it is not aligned in private data
 abbrev pub store_act : Area → StoreKind → Act
 store_act (Private offset) kind =
     if is_aligned (store_width kind) offset then acts.Done else acts.Align (DATA_START + offset)
@@ -185,10 +189,12 @@ act_as insns.Ecall r = acts.Service (asked r.base)
 act_as insns.Ebreak r = acts.Halt r.x31
 act_as _ r = acts.Done
 
+-- what an instruction asks for; a word that is none asks for nothing
 abbrev pub act_by : Option Insn → Raw → Act
 act_by None r = acts.Done
 act_by (Some insn) r = act_as insn r
 
+-- the same by its word
 abbrev pub act_of : Raw → (word : ℕ) → Act
 act_of r word = act_by (insn_of word) r
 
@@ -199,6 +205,7 @@ HasLoad (TaryId address) kind = reads_table kind ≡ true
 HasLoad (BaryId slot) kind = reads_table kind ≡ true
 HasLoad Nothing kind = ⊥
 
+-- an area that can be stored to
 abbrev pub HasStore : Area → Type 0
 HasStore (Private offset) = ⊤
 HasStore area = ⊥

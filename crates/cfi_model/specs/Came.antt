@@ -22,6 +22,7 @@ abbrev pub taken_in : Came → List Take
 taken_in (Loaded access) = if access.word == EPOCH then [] else Word access.found ∷ []
 taken_in (Ended reply) = Served reply ∷ []
 
+-- all that is taken of what came, in order
 abbrev pub takes_in : List Came → List Take
 takes_in [] = []
 takes_in (one ∷ later) = taken_in one ++ takes_in later
@@ -31,6 +32,7 @@ abbrev pub load_in : Came → List Access
 load_in (Loaded access) = access ∷ []
 load_in (Ended reply) = []
 
+-- all loads of it, in order
 abbrev pub loads_in : List Came → List Access
 loads_in [] = []
 loads_in (one ∷ later) = load_in one ++ loads_in later
@@ -70,6 +72,7 @@ pub record LoadedEnd : Type 0 where
   pub end : End
   pub loads : List Access
 
+-- an end, with the loads before it
 abbrev pub loaded_end : (loads : List Access) → End → LoadedEnd
 loaded_end loads end = record { end = end; loads = loads }
 

@@ -35,9 +35,11 @@ is_aligned width address = address % width == 0
 abbrev pub byte_at : List ℕ → (offset : ℕ) → ℕ
 byte_at bytes offset = slice_index bytes offset
 
+-- the two bytes at an offset, as a number
 abbrev pub half_at : List ℕ → (offset : ℕ) → ℕ
 half_at bytes offset = byte_at bytes offset + 2 ^ 8 * byte_at bytes (offset + 1)
 
+-- the four bytes there, as a number
 abbrev pub word_at : List ℕ → (offset : ℕ) → ℕ
 word_at bytes offset = half_at bytes offset + 2 ^ 16 * half_at bytes (offset + 2)
 
@@ -57,9 +59,11 @@ loaded Lhu bytes offset = half_at bytes offset
 abbrev pub with_byte : List ℕ → (offset value : ℕ) → List ℕ
 with_byte bytes offset value = slice_set bytes offset (value % 2 ^ 8)
 
+-- the bytes with a number of two put there
 abbrev pub with_half : List ℕ → (offset value : ℕ) → List ℕ
 with_half bytes offset value = with_byte (with_byte bytes offset value) (offset + 1) (value / 2 ^ 8)
 
+-- the bytes with a number of four put there
 abbrev pub with_data_word : List ℕ → (offset value : ℕ) → List ℕ
 with_data_word bytes offset value = with_half (with_half bytes offset value) (offset + 2) (value / 2 ^ 16)
 

@@ -48,10 +48,12 @@ accessed fits offset regs memory s = record s {
   stop = if fits then s.stop else Some (Align (DATA_START + offset));
 }
 
+-- a load of a value: it traps where it is not aligned
 abbrev pub load_effect : (width value offset rd : ℕ) → State → State
 load_effect width value offset rd s =
     accessed (is_aligned width offset) offset (regs_with s.regs rd value) s.memory s
 
+-- a store that leaves this memory: so does it
 abbrev pub store_effect : (width offset : ℕ) → Memory → State → State
 store_effect width offset memory s = accessed (is_aligned width offset) offset s.regs memory s
 

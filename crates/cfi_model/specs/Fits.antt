@@ -37,6 +37,7 @@ FitsReply (Some (waits.Tary at rd)) r reply = ⊥
 FitsReply (Some (waits.Bary slot rd)) r reply = ⊥
 FitsReply (Some (waits.Service number)) r reply = number ≡ OPEN → FitsOpen reply r.base
 
+-- what is taken fits what the guest waits for: a word, or a reply
 abbrev pub Fits : History → (code : List ℕ) → Raw → Take → Type 0
 Fits h code r (Word word) = FitsWord h code r.waits r word
 Fits h code r (Served reply) = FitsReply r.waits r reply

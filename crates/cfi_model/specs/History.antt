@@ -42,6 +42,7 @@ pub record IsSeen (h : History) (epoch : ℕ) : Type 0 where
 abbrev pub target_class : History → (epoch address : ℕ) → ℕ
 target_class h epoch address = slice_index (h.image epoch).tary (address / 4)
 
+-- the class of a slot in an epoch
 abbrev pub slot_class : History → (epoch slot : ℕ) → ℕ
 slot_class h epoch slot = slice_index (h.image epoch).bary slot
 
@@ -69,6 +70,7 @@ pub record IsTableWord (h : History) (Known : (epoch : ℕ) → Type 0) (class_o
 abbrev pub IsBaryWord : History → (slot found : ℕ) → Type 0
 IsBaryWord h slot found = IsTableWord h (IsEpoch h) (λ epoch. slot_class h epoch slot) found
 
+-- the word is one that the address's place in the table of targets had in an epoch that is seen
 abbrev pub IsTaryWord : History → (address found : ℕ) → Type 0
 IsTaryWord h address found = IsTableWord h (IsSeen h) (λ epoch. target_class h epoch address) found
 

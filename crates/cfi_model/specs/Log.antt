@@ -57,6 +57,7 @@ picks_in (Some (Open module_number address policy)) = 0
 picks_in (Some (Cause module_number cause)) = 0
 picks_in None = 0
 
+-- how many picks the last entry counts
 abbrev pub last_picks : List Log → ℕ
 last_picks log = picks_in (last_of log)
 
@@ -66,6 +67,7 @@ is_pick (Pick policy count) = true
 is_pick (Open module_number address policy) = false
 is_pick (Cause module_number cause) = false
 
+-- how many entries are picks
 abbrev pub pick_entries : List Log → ℕ
 pick_entries log = count_by is_pick log
 

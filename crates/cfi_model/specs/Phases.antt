@@ -20,6 +20,7 @@ abbrev pub phase_by : Option Entry → (tested code_words stored : ℕ) → Phas
 phase_by (Some entry) tested code_words stored = phases.Testing tested
 phase_by None tested code_words stored = phase_after code_words stored
 
+-- the phase of the tables
 abbrev pub phase_of : Tables → Phase
 phase_of t = phase_by t.asked t.tested t.code_words t.stored
 
@@ -48,6 +49,7 @@ is_newest (phases.Bary next) Epoch = true
 is_newest (phases.Bary next) (Bary slot) = nat_lt slot next
 is_newest (phases.Bary next) (Quiet guest) = false
 
+-- of which entry the word of a place is: the newest where it is stored, and else the one before
 abbrev pub number_in : Phase → Tables → Place → ℕ
 number_in phase t place = if is_newest phase place then newest t else before t
 

@@ -18,6 +18,7 @@ use Rattle.cfi_model.specs.Service.{Reply, Opens, served, argument, too_many}
 use Rattle.cfi_model.specs.Effect.{effect, allows_by, asks, going_to}
 use Rattle.cfi_word.specs.declared.sizes.TheConstants.{FORBIDDEN_STEPS}
 
+-- a state, and whether it waits for an answer
 pub record PlainState : Type 0 where
   pub state : State
   pub waits : Bool
@@ -43,6 +44,7 @@ abbrev pub ended_by : Option Stop → PlainStep
 ended_by None = Went
 ended_by (Some stop) = Stopped stop
 
+-- what a step comes to: it waits and asks for a module, or the unit has ended it
 abbrev pub step_of : PlainState → PlainStep
 step_of m = if m.waits then Asks (argument m.state) else ended_by m.state.stop
 

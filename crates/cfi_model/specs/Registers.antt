@@ -3,6 +3,7 @@ use Rattle.std.specs.Prelude.{ℕ, ◌==◌, nat_lt, if◌then◌else◌, List, 
 use Rattle.cfi_unit.specs.declared.unit.TheConstants.{FREE_REGISTERS}
 use Rattle.cfi_model.specs.State.{regs_with}
 
+-- the registers, by name where checks use them
 pub record RegFile : Type 0 where
   pub free : List ℕ
   pub x28 : ℕ
@@ -14,6 +15,7 @@ pub record RegFile : Type 0 where
 unfoldable pub free_of : List ℕ → List ℕ
 free_of words = take FREE_REGISTERS words
 
+-- 32 words as registers
 abbrev pub file_of : List ℕ → RegFile
 file_of words = record {
   free = free_of words;

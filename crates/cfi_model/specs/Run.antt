@@ -19,6 +19,7 @@ finish_as (Some (waits.Tary at rd)) r word = record (resumed (with_reg r rd (id_
 finish_as (Some (waits.Bary slot rd)) r word = record (resumed (with_reg r rd (id_in word))) { bary = Some word }
 finish_as (Some (waits.Service number)) r word = r
 
+-- what a word makes of a state that waits for one
 abbrev pub finish_of : Raw → (word : ℕ) → Raw
 finish_of r word = finish_as r.waits r word
 
@@ -31,12 +32,14 @@ serve_by service reply r = record r {
   waits = None;
 }
 
+-- what a reply makes of a state that waits in a service; of another nothing
 abbrev pub serve_as : Option Wait → Raw → Reply → Raw
 serve_as None r reply = r
 serve_as (Some (waits.Tary at rd)) r reply = r
 serve_as (Some (waits.Bary slot rd)) r reply = r
 serve_as (Some (waits.Service number)) r reply = serve_by (service_of number) reply r
 
+-- the same of a state, by what it waits for
 abbrev pub serve_of : Raw → Reply → Raw
 serve_of r reply = serve_as r.waits r reply
 
@@ -50,6 +53,7 @@ abbrev pub take_word : Option Wait → Raw → (word : ℕ) → Raw
 take_word None r word = begin_of r word
 take_word (Some wait) r word = finish_as (Some wait) r word
 
+-- what is taken makes of a state: a word or a reply
 abbrev pub take_one : Raw → Take → Raw
 take_one r (Word word) = take_word r.waits r word
 take_one r (Served reply) = serve_of r reply

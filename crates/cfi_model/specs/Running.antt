@@ -45,6 +45,7 @@ pub record IsSpent (last r : Raw) : Type 0 where
   pub idle : last.waits ≡ None
   pub is : r ≡ record last { base = record last.base { stop = Some stops.Fuel } }
 
+-- the guest runs, or has run and is out of fuel
 abbrev pub IsGuest : History → (code : List ℕ) → (retries : ℕ) → State → Raw → Type 0
 IsGuest h code retries s r =
     IsRunning h code retries s r ⊎ ((last : Raw) × IsRunning h code retries s last × IsSpent last r)

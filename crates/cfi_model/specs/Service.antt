@@ -36,6 +36,7 @@ pub record Reply : Type 0 where
   pub policy : ℕ
   pub fills : List Fill
 
+-- a reply, of its parts
 abbrev pub reply_of : (address cause policy : ℕ) → List Fill → Reply
 reply_of address cause policy fills = record { address = address; cause = cause; policy = policy; fills = fills }
 
@@ -51,6 +52,7 @@ too_many = reply_of 0 services.TOO_MANY 0 []
 abbrev pub asked : State → ℕ
 asked s = register s services.SERVICE
 
+-- what a guest hands to a service
 abbrev pub argument : State → ℕ
 argument s = register s services.ARGUMENT
 

@@ -32,9 +32,11 @@ abbrev pub word_of_past : Past → (number : ℕ) → Place → ℕ
 word_of_past p number place =
     entry_word p.versions (p.first + number) (slice_index_or p.entries number no_entry) place
 
+-- the word of a place in the newest entry
 abbrev pub newest_word : Past → Place → ℕ
 newest_word p place = word_of_past p (length p.entries - 1) place
 
+-- the word of it in the entry before
 abbrev pub earlier_word : Past → Place → ℕ
 earlier_word p place = word_of_past p (length p.entries - 2) place
 
@@ -59,6 +61,7 @@ abbrev pub HaveSameWords : (old new : Shared) → Type 0
 HaveSameWords old new =
     (place : Place) → IsPlace old.past.code_words place → new.word place ≡ old.word place
 
+-- two moments have the same past and the same words
 pub record AreSame (old new : Shared) : Type 0 where
   pub past : new.past ≡ old.past
   pub words : HaveSameWords old new

@@ -48,6 +48,7 @@ abbrev pub reply_in : Take → Option Reply
 reply_in (Word word) = None
 reply_in (Served reply) = Some reply
 
+-- the end of what a guest took: the words of a check that it has kept, and the reply
 abbrev pub end_of : Raw → Take → End
 end_of r t = record { bary = r.bary; tary = r.tary; reply = reply_in t }
 
@@ -56,6 +57,7 @@ pub record IsServed (end : End) (reply : Reply) (s : State) : Type 0 where
   pub came : end.reply ≡ Some reply
   pub fits : asked s ≡ OPEN → FitsOpen reply s
 
+-- a service has ended with its reply; of any other unit nothing is asked
 abbrev pub IsAnswered : CodeUnit → End → Reply → State → Type 0
 IsAnswered units.Service end reply s = IsServed end reply s
 IsAnswered _ end reply s = ⊤
@@ -159,6 +161,7 @@ pub record IsRepeat (h : History) (slot target : ℕ) : Type 0 where
   pub tary : ℕ
   pub apart : AreApart h slot target bary tary
 
+-- the check finds words with which it begins again; no other unit does
 abbrev pub IsRetried : History → CodeUnit → State → Type 0
 IsRetried h (units.Check link rs1 imm slot) s = IsRepeat h slot (displaced (register s rs1) imm)
 IsRetried h _ s = ⊥
@@ -169,6 +172,7 @@ pub record AreKept (h : History) (slot target : ℕ) (bary tary : Option ℕ) : 
   pub kept : bary ≡ Some words.bary
   pub last : tary ≡ Some words.tary
 
+-- so it does with those that were kept
 abbrev pub AreRetried : History → CodeUnit → State → (bary tary : Option ℕ) → Type 0
 AreRetried h (units.Check link rs1 imm slot) s bary tary =
     AreKept h slot (displaced (register s rs1) imm) bary tary
@@ -189,6 +193,7 @@ pub record IsInside (h : History) (code : List ℕ) (retries : ℕ) (s : State) 
   pub words : more ≢ 0 → at ≡ try_place → AreRetried h unit s r.bary r.tary
   pub base : r.base ≡ moved_to (s.pc + 4 * at) (RETRY_STEPS * (retries + more) + few) s
 
+-- the raw state stands at the end of a unit, or inside the next
 abbrev pub Shows : History → (code : List ℕ) → (retries : ℕ) → State → Raw → Type 0
 Shows h code retries s r = IsBetween retries s r ⊎ IsInside h code retries s r
 
@@ -228,6 +233,7 @@ FixedIsHistory =
     (image : Image) → IsSize (length image.code) → IsClosed (length image.code) image →
     IsHistory (fixed image) image.code
 
+-- a guest as it is opened at a start stands between two units, ready for the first
 abbrev pub OpenedIsReady : Type 0
 OpenedIsReady =
     (h : History) (number entry : ℕ) (fills : List Fill) → IsStart h entry →

@@ -25,6 +25,7 @@ pub record IsLoad (code_words : ℕ) (old new : Entry) : Type 0 where
   pub closed : IsClosed code_words new.image
   pub keeps : KeepsCode old.image new.image
 
+-- an entry more is a refresh or a load
 abbrev pub IsUpdate : (code_words : ℕ) → (old new : Entry) → Type 0
 IsUpdate code_words old new = IsRefresh old new ⊎ IsLoad code_words old new
 
@@ -35,6 +36,7 @@ pub record IsAsked (t : Tables) (entry : Entry) : Type 0 where
   pub guest : t.tested < GUESTS
   pub fits : next_epoch t ≤ MAX_EPOCH
 
+-- what may be asked for: no new entry, or one that the tables take
 abbrev pub MayBeAsked : Tables → Option Entry → Type 0
 MayBeAsked t None = ⊤
 MayBeAsked t (Some entry) = IsAsked t entry

@@ -52,6 +52,7 @@ HasStore (Quiet guest) = ⊥
 abbrev pub no_entry : Entry
 no_entry = record { policy = 0; image = record { tary = []; bary = []; code = [] }; mark = 0 }
 
+-- the entry of a number
 abbrev pub entry_at : Tables → (number : ℕ) → Entry
 entry_at t number = slice_index_or t.entries number no_entry
 
@@ -59,6 +60,7 @@ entry_at t number = slice_index_or t.entries number no_entry
 abbrev pub newest : Tables → ℕ
 newest t = length t.entries - 1
 
+-- the number of the entry before the newest
 abbrev pub before : Tables → ℕ
 before t = length t.entries - 2
 
@@ -80,6 +82,7 @@ word_of_entry t number place = entry_word t.versions (t.first + number) (entry_a
 abbrev pub is_stored : Tables → Place → Bool
 is_stored t place = nat_lt (rank_at t.code_words place) t.stored
 
+-- of which entry the word of a place is
 abbrev pub number_at : Tables → Place → ℕ
 number_at t place = if is_stored t place then newest t else before t
 
@@ -91,6 +94,7 @@ word_at t place = word_of_entry t (number_at t place) place
 abbrev pub epoch_in_force : Tables → ℕ
 epoch_in_force t = epoch_in (word_at t Epoch)
 
+-- the policy of EPOCH's word
 abbrev pub policy_in_force : Tables → ℕ
 policy_in_force t = policy_in (word_at t Epoch)
 

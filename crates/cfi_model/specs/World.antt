@@ -44,6 +44,7 @@ opened_world code_words versions first image guests room fuel = record {
 abbrev pub quiet_of : World → (guest : ℕ) → Quiet
 quiet_of w guest = slice_index_or w.quiets guest Unregistered
 
+-- where the guest is in its service, by what was taken of it last
 abbrev pub point_of : World → (guest : ℕ) → Point
 point_of w guest = slice_index_or w.points guest Outside
 

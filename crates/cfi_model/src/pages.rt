@@ -131,7 +131,8 @@ impl PrivateData {
         requires within { offset < DATA_BYTES }
         requires fits { offset % PAGE_BYTES + length bytes.now ≤ PAGE_BYTES }
         requires made { slice_index_or self.old.made (offset / PAGE_BYTES) false ≡ true }
-        ensures bytes { self.new.bytes ≡ splice self.old.bytes offset (offset + length bytes.now) bytes.now }
+        ensures bytes { self.new.bytes
+            ≡ splice self.old.bytes offset (offset + length bytes.now) bytes.now }
         ensures made { self.new.made ≡ self.old.made }
     {
         let number = self.numbers[(offset / PAGE_BYTES) as usize];

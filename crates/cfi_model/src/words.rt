@@ -49,7 +49,8 @@ pub fn tables_have_a_history()
         IsBaryWord (history_of t) slot (word_at t (Bary slot)) }
     ensures tary { (t : Tables) → IsTables t → (address : ℕ) →
         IsTaryWord (history_of t) address (word_at t (Tary (tary_index t.code_words address))) }
-    ensures code { (t : Tables) → IsTables t → (index : ℕ) → slice_index (code_in_force t) index ≢ 0 →
+    ensures code { (t : Tables) → IsTables t → (index : ℕ) →
+        slice_index (code_in_force t) index ≢ 0 →
         word_at t (Code index) ≡ slice_index (code_in_force t) index }
     ensures extends { (t u : Tables) → IsTables t → IsTables u → GoesOn t u →
         Extends (history_of t) (history_of u) }

@@ -21,6 +21,7 @@ command_word (commands.Run input) = codes "run"
 command_word (commands.Gen seed count) = codes "gen"
 command_word (commands.Stub input output) = codes "stub"
 
+-- the operands of a command, in its order
 abbrev pub operands_of : Command → List (List ℕ)
 operands_of (commands.Asm input output) = input ∷ output ∷ []
 operands_of (commands.List input) = input ∷ []

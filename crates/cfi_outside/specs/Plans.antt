@@ -23,6 +23,7 @@ abbrev pub files_and : (last : List ℕ) → Result Plan PlanFault → List (Lis
 files_and last (Ok plan) = files_of plan ++ last ∷ []
 files_and last (Err fault) = []
 
+-- the files of the plan in these bytes, and these behind them
 abbrev pub named_files_and : (bytes last : List ℕ) → List (List ℕ)
 named_files_and bytes last = files_and last (plan_in bytes)
 

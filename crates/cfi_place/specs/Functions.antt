@@ -17,6 +17,7 @@ make_function global f = record {
   name = f.name;
 }
 
+-- the functions of a module, which are global where a global symbol stands at their names
 abbrev pub placed_functions : List Symbol → List Function → List PlacedFunction
 placed_functions symbols functions = map (λ f. make_function (is_global symbols f) f) functions
 
@@ -24,6 +25,7 @@ placed_functions symbols functions = map (λ f. make_function (is_global symbols
 abbrev pub is_global_text : Symbol → Bool
 is_global_text symbol = is_global_binding symbol.binding && is_text symbol.place
 
+-- the global symbols in the text, by name
 abbrev pub globals_in : List Symbol → List (List ℕ × ℕ)
 globals_in symbols = map (λ s. (s.name, s.value)) (filter is_global_text symbols)
 
@@ -32,5 +34,6 @@ abbrev pub stands_at : Option ℕ → (offset : ℕ) → Bool
 stands_at None offset = false
 stands_at (Some place) offset = place == offset
 
+-- a function's name stands at its offset there
 abbrev pub has_global : (globals : Names) → Function → Bool
 has_global globals f = stands_at (globals f.name) f.offset

@@ -5,6 +5,7 @@ use Rattle.std.specs.Map.{lookup}
 use Rattle.std.specs.Str.{bytes_eq}
 use Rattle.cfi_place.specs.declared.symbols.Symbols.{Symbols}
 
+-- an address for each name that has one
 abbrev pub Names : Type 0
 Names = List ℕ → Option ℕ
 

@@ -46,6 +46,7 @@ abbrev pub unless_undefined : Option (List ℕ) → Result Areas PlaceFault → 
 unless_undefined None next = next
 unless_undefined (Some name) next = Err (faults.Undefined name)
 
+-- the result, or this fault where something does not fit
 abbrev pub where_fits : Bool → PlaceFault → Result Areas PlaceFault → Result Areas PlaceFault
 where_fits fits fault next = if fits then next else Err fault
 
@@ -53,6 +54,7 @@ where_fits fits fault next = if fits then next else Err fault
 abbrev pub code_fits : Object → Room → Bool
 code_fits object room = nat_le (room.base + length object.text / 4) room.code_words
 
+-- the data end within private data
 abbrev pub data_fits : Object → Room → Bool
 data_fits object room = nat_le (room.data_base + length object.static_data) DATA_END
 
@@ -63,6 +65,7 @@ placed_by object room values =
     (where_fits (code_fits object room) faults.CodeFull
     (where_fits (data_fits object room) faults.DataFull (relocated object room values)))
 
+-- text and data of an object in a room, or the first fault
 abbrev pub placed_in : Object → Room → Names → Result Areas PlaceFault
 placed_in object room names = placed_by object room (values_in object room names)
 

@@ -21,9 +21,11 @@ pub record Areas : Type 0 where
   pub text : List ℕ
   pub static_data : List ℕ
 
+-- text and data as areas
 abbrev pub areas_of : (text static_data : List ℕ) → Areas
 areas_of text static_data = record { text = text; static_data = static_data }
 
+-- how long an area is
 abbrev pub size_in : Area → (text static_data : ℕ) → ℕ
 size_in areas.Text text static_data = text
 size_in areas.Data text static_data = static_data
@@ -33,6 +35,7 @@ abbrev pub area_address : Area → Room → (offset : ℕ) → ℕ
 area_address areas.Text room offset = 4 * room.base + offset
 area_address areas.Data room offset = room.data_base + offset
 
+-- where the field of a relocation lies
 abbrev pub field_address : Room → Reloc → ℕ
 field_address room reloc = area_address reloc.area room reloc.offset
 
@@ -44,10 +47,12 @@ value_in values reloc = unwrap_or (value_at values reloc.symbol) 0
 abbrev pub is_high : Reloc → Bool
 is_high reloc = reloc.kind == PCREL_HI20
 
+-- the field of an upper part, and the displacement whose lower part its partner takes
 abbrev pub upper_part : Room → List (Option ℕ) → Reloc → ℕ × ℕ
 upper_part room values reloc =
     (field_address room reloc, displacement (value_in values reloc) reloc.addend (field_address room reloc))
 
+-- those of all upper parts, in order
 abbrev pub high_parts : Room → List (Option ℕ) → List Reloc → List (ℕ × ℕ)
 high_parts room values relocs = map (upper_part room values) (filter is_high relocs)
 

@@ -16,6 +16,7 @@ abbrev pub check_at : (at : ℕ) → CodeUnit → List ℕ
 check_at at (units.Check link rs1 imm slot) = at ∷ []
 check_at at unit = []
 
+-- the words of the checks among units that begin at a word
 abbrev pub checks_from : (at : ℕ) → List CodeUnit → List ℕ
 checks_from at [] = []
 checks_from at (unit ∷ rest) = check_at at unit ++ checks_from (at + size_of unit) rest

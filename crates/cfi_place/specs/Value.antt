@@ -18,6 +18,7 @@ use Rattle.cfi_place.specs.Names.{Names, first_in}
 abbrev pub own_in : Room → List Symbol → Names
 own_in room symbols = first_in (exports_of room.base room.data_base symbols)
 
+-- a weak name that nothing defines is 0; any other has no value
 abbrev pub weak_value : Binding → Option ℕ
 weak_value bindings.Weak = Some 0
 weak_value bindings.Global = None
@@ -35,6 +36,7 @@ value_by places.Absolute room own names symbol = Some (address_of room.base room
 value_by places.Text room own names symbol = Some (address_of room.base room.data_base symbol)
 value_by places.Data room own names symbol = Some (address_of room.base room.data_base symbol)
 
+-- the value of a symbol in a room
 abbrev pub value_of : Room → (own names : Names) → Symbol → Option ℕ
 value_of room own names symbol = value_by symbol.place room own names symbol
 
@@ -57,6 +59,7 @@ abbrev pub unless_there : Option ℕ → (name : List ℕ) → (rest : Option (L
 unless_there (Some value) name rest = rest
 unless_there None name rest = Some name
 
+-- the name of the first relocation whose symbol has no value
 abbrev pub undefined_in : List Symbol → List (Option ℕ) → List Reloc → Option (List ℕ)
 undefined_in symbols values [] = None
 undefined_in symbols values (reloc ∷ relocs) =

@@ -46,13 +46,15 @@ pub fn relocate(
     values: &[Option<u32>],
     relocs: &[Reloc],
 ) -> Result<(), PlaceFault>
-    requires ready { All (CanBeTried room.now (length text.old) (length static_data.old)) relocs.now }
+    requires ready { All
+        (CanBeTried room.now (length text.old) (length static_data.old)) relocs.now }
     requires few { length relocs.now ≤ 2 ^ 32 }
     ensures ok { OnOk result (relocated_from room.now values.now
         (high_parts room.now values.now relocs.now) 0 relocs.now (areas_of text.old static_data.old)
         ≡ Ok (areas_of text.new static_data.new)) }
     ensures fault { IfErr result (λ fault. IsFault fault (relocated_from room.now values.now
-        (high_parts room.now values.now relocs.now) 0 relocs.now (areas_of text.old static_data.old))) }
+        (high_parts room.now values.now relocs.now) 0 relocs.now
+        (areas_of text.old static_data.old))) }
 {
     let partners = partners(alloc, room, values, relocs)?;
     for (k, reloc) in relocs.iter().enumerate() {

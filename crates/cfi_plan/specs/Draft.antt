@@ -42,6 +42,7 @@ abbrev pub refreshes_of : ScriptLine → ℕ
 refreshes_of (script.Load number) = 0
 refreshes_of (script.Refresh count) = count
 
+-- how many refreshes the lines ask for in all
 abbrev pub refreshes : (lines : List ScriptLine) → ℕ
 refreshes lines = sum_by refreshes_of lines
 

@@ -17,6 +17,7 @@ view_of a = record {
   script = a.script.items;
 }
 
+-- what is kept agrees with the draft, and is within the limits
 pub record IsKept (a : Inside) : Type 0 where
   pub names : (name : List ℕ) → get_by_text a.names name ≡ module_of a.modules.items name
   pub starts_counted : a.starts ≡ starts a.modules.items

@@ -27,6 +27,7 @@ abbrev pub bytes_text : List ℕ → List ℕ
 bytes_text [] = codes "-"
 bytes_text (byte ∷ bytes) = hex_text (byte ∷ bytes)
 
+-- a field as text
 abbrev pub field_text : Field → List ℕ
 field_text (Word word) = word
 field_text (Decimal number) = dec_text number
@@ -39,6 +40,7 @@ abbrev pub who_field : Who → Field
 who_field Script = Word (codes "script")
 who_field (Guest number) = Decimal number
 
+-- the fields of a line of the journal
 abbrev pub what_fields : JournalLine → List Field
 what_fields (LoadOk number epoch policy) =
     Word (codes "load") ∷ Decimal number ∷ Word (codes "ok") ∷ Decimal epoch ∷ Decimal policy ∷ []
@@ -56,11 +58,13 @@ what_fields (RefreshVersions guest quiet) =
     Word (codes "refresh") ∷ Word (codes "versions") ∷ Decimal guest ∷ Decimal quiet ∷ []
 what_fields RefreshEpochs = Word (codes "refresh") ∷ Word (codes "epochs") ∷ []
 
+-- those of an entry of a log
 abbrev pub log_fields : Log → List Field
 log_fields (Pick policy count) = Word (codes "pick") ∷ Decimal policy ∷ Decimal count ∷ []
 log_fields (Open number address policy) = Word (codes "open") ∷ Decimal number ∷ Address address ∷ Decimal policy ∷ []
 log_fields (Cause number cause) = Word (codes "open") ∷ Decimal number ∷ Word (codes "cause") ∷ Decimal cause ∷ []
 
+-- those of what a guest has ended with
 abbrev pub stop_fields : Option Stop → List Field
 stop_fields (Some (Exit code)) = Word (codes "exit") ∷ Decimal code ∷ []
 stop_fields (Some (Halt address)) = Word (codes "halt") ∷ Address address ∷ []
@@ -68,6 +72,7 @@ stop_fields (Some (Align address)) = Word (codes "align") ∷ Address address �
 stop_fields (Some Fuel) = Word (codes "fuel") ∷ []
 stop_fields None = Word (codes "none") ∷ []
 
+-- those of any line
 abbrev pub line_fields : Line → List Field
 line_fields line.Title = Word (codes "report") ∷ Word (codes "1") ∷ []
 line_fields (line.Force epoch policy) = Word (codes "force") ∷ Decimal epoch ∷ Decimal policy ∷ []

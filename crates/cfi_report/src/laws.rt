@@ -17,5 +17,6 @@ pub fn one_report()
 
 /// A text has at most one first faulty line.
 pub fn one_first_fault()
-    ensures { (text : List ℕ) (n m : ℕ) → IsFirstFaultyLine text n → IsFirstFaultyLine text m → n ≡ m }
+    ensures { (text : List ℕ) (n m : ℕ) → IsFirstFaultyLine text n → IsFirstFaultyLine text m
+        → n ≡ m }
 {}

@@ -34,6 +34,7 @@ pub record IsShownBy (k : Key) (later : Sight) (old : Raw) (takes : List Take) (
   pub shown : IsShown (history_seen k later) (code_seen k later) 0 old.base old takes retries state
   pub paused : IsPausedIn (history_seen k later) (code_seen k later) (ends_along old takes) old.base state pause
 
+-- a run shows the policy machine, whatever its pass sees later
 abbrev pub RunsShow : Type 0
 RunsShow =
     (k : Key) (fuel : ℕ) (p q : PassView) (old new : Raw) (pause : Pause) → CanRunOn k fuel p old →
@@ -97,6 +98,7 @@ NotedSee =
     AgreesWith k keeping.entries keeping.refusals p.sight → IsSight k p.sight →
     SeesMore k p.sight (noted k keeping p).sight
 
+-- a pass sees more at a quiescent point
 abbrev pub QuietSee : Type 0
 QuietSee =
     (k : Key) (epoch : ℕ) (p q : PassView) → IsQuiet k epoch p q → IsSight k p.sight → SeesMore k p.sight q.sight
@@ -117,5 +119,6 @@ pub record IsServedRun (k : Key) (fuel : ℕ) : Type 0 where
   pub may : MayServe k q.sight 0 too_many new
   pub going : (serve_of new too_many).base.stop ≡ None
 
+-- some guest is run and served, under any fuel
 abbrev pub SomeIsServed : Type 0
 SomeIsServed = (fuel : ℕ) → 1 ≤ fuel → (k : Key) × IsServedRun k fuel

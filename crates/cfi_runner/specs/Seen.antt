@@ -29,6 +29,7 @@ history_seen k sight = record {
 abbrev pub code_seen : Key → Sight → List ℕ
 code_seen k sight = (entry_seen k sight sight.latest).image.code
 
+-- the policy that a pass has seen last
 abbrev pub policy_seen : Key → Sight → ℕ
 policy_seen k sight = (entry_seen k sight sight.latest).policy
 

@@ -35,6 +35,7 @@ MissesWidth (units.Store kind rs1 rs2 imm) s address =
     (address ≡ DATA_START + masked_at rs1 imm s) × (is_aligned (store_width kind) (masked_at rs1 imm s) ≡ false)
 MissesWidth unit s address = ⊥
 
+-- the unit in which the guest stops for an address that its access is not aligned to
 pub record IsMisaligned (code : List ℕ) (s : State) (address : ℕ) : Type 0 where
   pub unit : CodeUnit
   pub stands : Stands code s.pc unit

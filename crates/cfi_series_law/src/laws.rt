@@ -23,8 +23,10 @@ pub fn joins_or_has_a_fault()
 pub fn more_modules_keep()
     ensures words { (code_words n : ℕ) (ms live later : List Placed) (a b : Image) →
         IsLoadedImage code_words (take n ms) live a → IsLoadedImage code_words ms later b →
-        (word : ℕ) → slice_index a.code word ≢ 0 → slice_index b.code word ≡ slice_index a.code word }
+        (word : ℕ) → slice_index a.code word ≢ 0
+        → slice_index b.code word ≡ slice_index a.code word }
     ensures starts { (code_words n : ℕ) (ms live later : List Placed) (a b : Image) →
         AreLoaded code_words ms → IsLoadedImage code_words (take n ms) live a →
-        IsLoadedImage code_words ms later b → (address : ℕ) → IsStartIn a address → IsStartIn b address }
+        IsLoadedImage code_words ms later b → (address : ℕ) → IsStartIn a address
+        → IsStartIn b address }
 {}

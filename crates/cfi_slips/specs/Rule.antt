@@ -15,6 +15,7 @@ pub record AgreesWith (u : StubsView) (p : SlipView) : Type 0 where
   pub out : is_out u.out p.guest ≡ true
   pub says : p.lines ≡ lines_of p.guest u.told
 
+-- what the stubs hold agrees with them, if they hold a slip
 abbrev pub HeldFits : StubsView → Option SlipView → Type 0
 HeldFits u None = ⊤
 HeldFits u (Some p) = AgreesWith u p
@@ -29,6 +30,7 @@ pub record IsOut (u : StubsView) (p : SlipView) : Type 0 where
   pub agrees : AgreesWith u p
   pub apart : IsElse u.held p.guest
 
+-- the rule: the first view is that of the stubs, and each other one agrees with it
 pub record KeepsSlips (views : List View) : Type 0 where
   pub stubs : StubsView
   pub first : get_elem? views 0 ≡ some (Stubs stubs)

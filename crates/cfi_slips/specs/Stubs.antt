@@ -19,6 +19,7 @@ pub record Sheet : Type 0 where
 abbrev pub opened_sheet : Sheet
 opened_sheet = record { told = []; out = replicate GUESTS false }
 
+-- the slip of the guest is out
 abbrev pub is_out : List Bool → (guest : ℕ) → Bool
 is_out out guest = slice_index_or out guest false
 
@@ -38,6 +39,7 @@ with_told more sheet = record sheet { told = sheet.told ++ more }
 abbrev pub issued : (guest : ℕ) → Sheet → Sheet
 issued guest sheet = record sheet { out = slice_set sheet.out guest true }
 
+-- the slip of the guest is back
 abbrev pub taken : (guest : ℕ) → Sheet → Sheet
 taken guest sheet = record sheet { out = slice_set sheet.out guest false }
 
@@ -47,6 +49,7 @@ taken guest sheet = record sheet { out = slice_set sheet.out guest false }
 abbrev pub idle_view : Sheet → StubsView
 idle_view sheet = record { told = sheet.told; out = sheet.out; held = None }
 
+-- the view of the first stubs
 abbrev pub opened_view : View
 opened_view = Stubs (idle_view opened_sheet)
 
@@ -54,6 +57,7 @@ opened_view = Stubs (idle_view opened_sheet)
 abbrev pub no_slip : SlipView
 no_slip = record { guest = 0; lines = [] }
 
+-- the slip of a view, or none
 abbrev pub slip_of : View → SlipView
 slip_of (Stubs u) = no_slip
 slip_of (Slip p) = p
@@ -63,6 +67,7 @@ slip_of Spent = no_slip
 abbrev pub no_stubs : StubsView
 no_stubs = record { told = []; out = []; held = None }
 
+-- the stubs of a view, or none
 abbrev pub stubs_of : View → StubsView
 stubs_of (Stubs u) = u
 stubs_of (Slip p) = no_stubs

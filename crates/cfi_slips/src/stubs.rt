@@ -32,7 +32,8 @@ impl<N: SlipsName> Model for Stubs<N> {
 
     ghost view = { λ a. sheet_at a.seat.me };
 
-    ghost invariant = { λ a. AreStubs N.slips a.words.shared.table_id a.seat.table_id a.seat.id a.seat.me };
+    ghost invariant = { λ a.
+        AreStubs N.slips a.words.shared.table_id a.seat.table_id a.seat.id a.seat.me };
 }
 
 // Takes a slip's seat in, and tells these lines, all in its guest's name, on it and on its stubs.

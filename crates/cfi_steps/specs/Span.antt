@@ -5,6 +5,7 @@ use Rattle.rv_insn.specs.declared.insn.Insn.TheVariants as insns
 use Rattle.rv_insn.specs.declared.insn.ImmOp.TheVariants.{Addi}
 use Rattle.cfi_steps.specs.declared.span.Span.{Span}
 
+-- so many instructions before, and after
 abbrev pub span : (before after : ℕ) → Span
 span before after = record { before = before; after = after }
 
@@ -24,6 +25,7 @@ through rs1 imm (Some (insns.Store kind base rs2 off)) = Some (insns.Store kind 
 through rs1 imm (Some (insns.Jalr rd base off)) = Some (insns.Jalr rd rs1 imm)
 through rs1 imm last = last
 
+-- the instruction that a unit stands for, by its first and last: of a masked access the address is the first's
 abbrev pub plain_of : (first last : Option Insn) → Option Insn
 plain_of (Some (insns.OpImm Addi rd rs1 imm)) last = if rd == 31 then through rs1 imm last else last
 plain_of first last = last

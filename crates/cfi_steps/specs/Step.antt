@@ -35,6 +35,7 @@ unfoldable pub first_registers : Raw → (count : ℕ) → List ℕ
 first_registers r zero = []
 first_registers r (suc count) = first_registers r count ++ reg r count ∷ []
 
+-- what is told of a guest before an event
 abbrev pub seen_of : Point → Raw → Seen
 seen_of point r = record {
   point = point;
@@ -79,10 +80,12 @@ abbrev pub change_text : (k before value : ℕ) → List ℕ
 change_text k before value =
     if before == value then [] else codes " x" ++ dec_text k ++ codes "=" ++ hex8_text value
 
+-- the first registers that have changed
 unfoldable pub changes_text : Seen → Raw → (count : ℕ) → List ℕ
 changes_text old new zero = []
 changes_text old new (suc k) = changes_text old new k ++ change_text k (slice_index old.registers k) (reg new k)
 
+-- what a unit has done: its entry of the log, where it leads, and what it has changed
 unfoldable pub did_text : Seen → Raw → (next : ℕ) → List ℕ
 did_text old new next =
     entry_text old new.base.log ++ arrow_text new.base.stop next new.base.pc ++ changes_text old new FREE_REGISTERS
@@ -99,9 +102,11 @@ word_text word =
 abbrev pub bary_text : (slot word : ℕ) → List ℕ
 bary_text slot word = codes "bary " ++ dec_text slot ++ word_text word
 
+-- the load of a target's word
 unfoldable pub target_text : (at : ℕ) → List ℕ
 target_text at = codes "tary " ++ hex8_text at
 
+-- with the word that it finds
 abbrev pub tary_text : (at word : ℕ) → List ℕ
 tary_text at word = target_text at ++ word_text word
 
@@ -123,6 +128,7 @@ abbrev pub head_text : (guest number address : ℕ) → List ℕ
 head_text guest number address =
     dec_text guest ++ codes " " ++ dec_text number ++ codes " " ++ hex8_text address ++ codes " "
 
+-- a line of a guest: where it is, what happens, and what comes of it
 unfoldable pub line_of : (guest : ℕ) → Seen → (address : ℕ) → (what did : List ℕ) → Option Stop → List ℕ
 line_of guest old address what did stop =
     head_text guest (old.units + 1) address ++ what ++ behind (did ++ stop_text stop) ++ codes "\n"
@@ -131,6 +137,7 @@ line_of guest old address what did stop =
 abbrev pub insn_at : Tables → (address : ℕ) → Option Insn
 insn_at t address = insn_of (word_at t (Code (address / 4)))
 
+-- the text of an instruction
 abbrev pub insn_text : Option Insn → List ℕ
 insn_text None = []
 insn_text (Some insn) = text_of insn
@@ -174,6 +181,7 @@ unfoldable pub bary_line : Tables → (guest : ℕ) → Seen → (slot : ℕ) �
 bary_line t guest old slot stop =
     line_of guest old (old.pc - 20) (bary_text slot (word_at t (Bary slot))) [] stop
 
+-- the line of a load of a target's word
 unfoldable pub tary_line : Tables → (guest : ℕ) → Seen → (at : ℕ) → Option Stop → List ℕ
 tary_line t guest old at stop =
     line_of guest old (old.pc - 32) (tary_text at (word_at t (Tary (tary_index t.code_words at)))) [] stop

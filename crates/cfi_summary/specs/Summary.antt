@@ -13,14 +13,17 @@ use Rattle.cfi_summary.specs.declared.summary_text.Measure.{Measure}
 abbrev pub count_line : (word : List ℕ) → (number : ℕ) → List ℕ
 count_line word number = word ++ codes " " ++ dec_text number ++ codes "\n"
 
+-- what was asked for
 abbrev pub asked_line : (seed count : ℕ) → List ℕ
 asked_line seed count = codes "gen " ++ dec_text seed ++ codes " " ++ dec_text count ++ codes "\n"
 
+-- how much it is
 abbrev pub measure_lines : Measure → List ℕ
 measure_lines measure =
     count_line (codes "words") measure.words ++ count_line (codes "slots") measure.slots
     ++ count_line (codes "classes") measure.classes
 
+-- what a guest has put, and why it has stopped
 abbrev pub guest_lines : GuestPart → List ℕ
 guest_lines guest =
     count_line (codes "guest") guest.number ++ line_text (line.Out guest.out) ++ line_text (line.Stop guest.stop)

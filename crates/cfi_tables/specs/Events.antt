@@ -39,6 +39,7 @@ past_of k u = record {
   tested = u.tested;
 }
 
+-- what all threads share, of the words and what the keeper sees
 abbrev pub shared_of : Key → (words : List ℕ) → KeeperView → Shared
 shared_of k words u = record {
   past = past_of k u;
@@ -61,6 +62,7 @@ Relates related k s t before after =
 
 -- ---- steps of a pass
 
+-- each load of a pass is a load of the word of its place
 abbrev pub LoadsAreEvents : Type 0
 LoadsAreEvents =
     (k : Key) (slots seat : ℕ) (p : PassView) (new : Seated) (s t : TableState) (place : Place) →
@@ -70,6 +72,7 @@ LoadsAreEvents =
     Loads k (step slots number 0 0 none) (Pass p, []) found new →
     Relates (Makes (events.Load place found)) k s t one.before one.after
 
+-- each fetch of one is a load of the code's word
 abbrev pub FetchesAreEvents : Type 0
 FetchesAreEvents =
     (k : Key) (slots seat : ℕ) (p : PassView) (new : Seated) (s t : TableState) (index : ℕ) →
@@ -84,6 +87,7 @@ abbrev pub MakesParkBy : (parked : Bool) → (guest : ℕ) → (old new : Shared
 MakesParkBy true guest old new = AreSame old new
 MakesParkBy false guest old new = Makes (events.Park guest) old new
 
+-- parking, and its end, is an event of the guest
 abbrev pub ParksAreEvents : Type 0
 ParksAreEvents =
     (k : Key) (slots seat word : ℕ) (p : PassView) (new : Seated) (s t : TableState) →
@@ -112,6 +116,7 @@ tested_event k entry found u =
     if is_passed k u found then events.Pass entry
     else events.Refuse u.tested (found - 1) (next_epoch (tables_of k u))
 
+-- each test of the keeper is one of the word of the guest
 abbrev pub TestsAreEvents : Type 0
 TestsAreEvents =
     (k : Key) (slots : ℕ) (u : KeeperView) (new : Seated) (s t : TableState) (entry : Entry) → u.tested < GUESTS →
@@ -121,6 +126,7 @@ TestsAreEvents =
     Tests k entry (step slots number 0 0 none) (Keeper u, []) found new →
     Relates (Makes (tested_event k entry found u)) k s t one.before one.after
 
+-- each store of an update is one of the word of its place
 abbrev pub StoresAreEvents : Type 0
 StoresAreEvents =
     (k : Key) (slots word : ℕ) (u : KeeperView) (new : Seated) (s t : TableState) (place : Place) →
@@ -130,6 +136,7 @@ StoresAreEvents =
     Stores k (step slots number word 0 none) (Keeper u, []) word new →
     Relates (Makes (events.Store place)) k s t one.before one.after
 
+-- giving a guest's word back is the guest's leaving
 abbrev pub ClearsAreEvents : Type 0
 ClearsAreEvents =
     (k : Key) (slots : ℕ) (u : KeeperView) (p : PassView) (new : Seated) (s t : TableState) → u.held ≡ Some p →
@@ -139,6 +146,7 @@ ClearsAreEvents =
 
 -- ---- steps of the keeper that are none
 
+-- registering a guest sets its word and no other
 abbrev pub RegistersSetOne : Type 0
 RegistersSetOne =
     (k : Key) (slots word guest : ℕ) (u : KeeperView) (new : Seated) (s t : TableState) → guest < GUESTS →
@@ -146,6 +154,7 @@ RegistersSetOne =
     Registers k (step slots (quiet_word guest) word 0 none) (Keeper u, []) word new →
     Relates (IsSet (places.Quiet guest) word) k s t one.before one.after
 
+-- what the keeper loads to look changes nothing
 abbrev pub LooksChangeNothing : Type 0
 LooksChangeNothing =
     (k : Key) (slots number : ℕ) (u : KeeperView) (new : Seated) (s t : TableState) →
@@ -154,6 +163,7 @@ LooksChangeNothing =
     Looks k (step slots number 0 0 none) (Keeper u, []) found new →
     Relates AreSame k s t one.before one.after
 
+-- telling a pass what the keeper has seen changes nothing
 abbrev pub TellsChangeNothing : Type 0
 TellsChangeNothing =
     (k : Key) (slots number : ℕ) (u : KeeperView) (new : Seated) (s t : TableState) →
@@ -164,6 +174,7 @@ TellsChangeNothing =
 
 -- ---- such steps come
 
+-- some step of the kind comes of a seat, at this word
 pub record StepComes (k : Key) (seat number word : ℕ) (old : Seated) (s : TableState) (kind : Seated → Type 0)
     : Type 0 where
   pub new : Seated

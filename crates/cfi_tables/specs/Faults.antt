@@ -67,6 +67,7 @@ pub record IsRefused (k : Key) (mark guest quiet : ℕ) (old new : Keeping) : Ty
     mark = mark;
   }) new.quiets old
 
+-- an update was refused for this fault; where no epoch is left nothing has changed
 abbrev pub FaultIs : Key → (mark : ℕ) → (old new : Keeping) → UpdateFault → Type 0
 FaultIs k mark old new EpochsSpent = (epoch_after k old ≡ MAX_EPOCH + 1) × (new ≡ old)
 FaultIs k mark old new (VersionsSpent guest quiet) = IsRefused k mark guest quiet old new

@@ -12,6 +12,7 @@ use Rattle.cfi_model.specs.World.{first_entry}
 use Rattle.cfi_tables.specs.Key.{Key}
 use Rattle.cfi_tables.specs.declared.view.Quiets.{Quiets}
 
+-- what the keeper keeps
 pub record Keeping : Type 0 where
   pub entries : List Entry
   pub refusals : List Refusal
@@ -37,6 +38,7 @@ found_as guest word quiets = record {
 abbrev pub no_quiets : Quiets
 no_quiets = record { heard = []; found = [] }
 
+-- the QUIET words of an opening: no guest is there
 abbrev pub opened_quiets : Quiets
 opened_quiets = record { heard = replicate GUESTS 0; found = replicate GUESTS 0 }
 
@@ -44,6 +46,7 @@ opened_quiets = record { heard = replicate GUESTS 0; found = replicate GUESTS 0 
 abbrev pub opened_entries : Key → List Entry
 opened_entries k = first_entry k.image ∷ []
 
+-- what the keeper keeps at the opening: the first entry
 abbrev pub opened_keeping : Key → Keeping
 opened_keeping k = record {
   entries = opened_entries k;
@@ -64,6 +67,7 @@ entry_by policy image mark = record { policy = policy; image = image; mark = mar
 abbrev pub grown_by : Entry → Quiets → Keeping → Keeping
 grown_by entry quiets keeping = record keeping { entries = keeping.entries ++ entry ∷ []; quiets = quiets }
 
+-- an update more was not admitted
 abbrev pub refused_by : Refusal → Quiets → Keeping → Keeping
 refused_by refusal quiets keeping = record keeping { refusals = keeping.refusals ++ refusal ∷ []; quiets = quiets }
 
@@ -84,6 +88,7 @@ let_out k guest keeping = record keeping {
   quiets = heard_as guest (k.first + length keeping.entries) keeping.quiets;
 }
 
+-- the guest's pass is back, and its word is 0
 abbrev pub let_in : (guest : ℕ) → Keeping → Keeping
 let_in guest keeping = record keeping {
   out = slice_set keeping.out guest false;

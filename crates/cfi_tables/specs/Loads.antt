@@ -24,9 +24,11 @@ abbrev pub IsBaryAddress : (code_words address : ℕ) → Type 0
 IsBaryAddress code_words address =
     (BARY ≤ address) × (address < BARY + 4 * slots_of code_words) × (address % 4 ≡ 0)
 
+-- an address in the table of targets, in bytes
 abbrev pub IsTaryAddress : (address : ℕ) → Type 0
 IsTaryAddress address = (TARY ≤ address) × (address < TARY + CODE_BYTES) × (address % 4 ≡ 0)
 
+-- an address of which a guest may ask for a word of the tables
 abbrev pub IsTableAddress : (code_words address : ℕ) → Type 0
 IsTableAddress code_words address = IsBaryAddress code_words address ⊎ IsTaryAddress address
 
@@ -41,6 +43,7 @@ abbrev pub word_of_number : Key → List Entry → (number : ℕ) → Place → 
 word_of_number k entries number place =
     entry_word k.versions (k.first + number) (slice_index_or entries number no_entry) place
 
+-- the word of a place in one of the entries
 pub record IsWordOf (k : Key) (entries : List Entry) (place : Place) (found : ℕ) : Type 0 where
   pub number : ℕ
   pub within : number < length entries

@@ -75,6 +75,7 @@ pub record IsRegistered (k : Key) (u : KeeperView) (p : PassView) : Type 0 where
   pub heard : slice_index u.quiets.heard p.guest ≤ p.quiet + 1
   pub bounded : p.parked ≡ false → IsBounded k u p
 
+-- what a seat's view says is true, as the keeper has it
 abbrev pub IsTrueOf : Key → KeeperView → View → Type 0
 IsTrueOf k u (Keeper view) = ⊤
 IsTrueOf k u (Pass p) = IsRegistered k u p
@@ -89,6 +90,7 @@ pub record IsHeldOut (k : Key) (words : List ℕ) (u : KeeperView) (p : PassView
   pub registered : IsRegistered k u p
   pub published : IsPublished words p
 
+-- so is what the keeper holds, if it holds a pass
 abbrev pub HeldFits : Key → (words : List ℕ) → KeeperView → Option PassView → Type 0
 HeldFits k words u None = ⊤
 HeldFits k words u (Some p) = IsHeldOut k words u p
@@ -121,6 +123,7 @@ pub record ShowQuiets (k : Key) (words : List ℕ) (u : KeeperView) : Type 0 whe
 abbrev pub CodeFits : Key → (words : List ℕ) → Type 0
 CodeFits k words = (index : ℕ) → index < k.code_words → slice_index words (code_word index) < 2 ^ 32
 
+-- the rule of the tables
 pub record KeepsRule (k : Key) (s : State (Unit {0}) View) : Type 0 where
   pub keeper : KeeperView
   pub first : get_elem? s.views 0 ≡ some (Keeper keeper)

@@ -44,6 +44,7 @@ view_at keeping stored = record {
 abbrev pub idle_view : Key → Keeping → KeeperView
 idle_view k keeping = view_at keeping (stores_of k.code_words)
 
+-- the tables while no update is under way
 abbrev pub idle_tables : Key → Keeping → Tables
 idle_tables k keeping = tables_of k (idle_view k keeping)
 
@@ -56,6 +57,7 @@ abbrev pub last_tables : Key → Sight → Tables
 last_tables k sight =
     tables_of k (view_at (record { entries = sight.had; refusals = []; out = []; quiets = no_quiets }) sight.stored)
 
+-- the moment of the tables of which a pass has heard last
 abbrev pub last_moment : Key → Sight → Moment
 last_moment k sight = moment_of (last_tables k sight)
 
@@ -103,6 +105,7 @@ word_of_pass p = if p.parked then PARKED else p.quiet + 1
 abbrev pub no_view : KeeperView
 no_view = view_at (record { entries = []; refusals = []; out = []; quiets = no_quiets }) 0
 
+-- the view of the keeper, or none
 abbrev pub keeper_of : View → KeeperView
 keeper_of (Keeper u) = u
 keeper_of (Pass p) = no_view
@@ -117,6 +120,7 @@ no_pass = record {
   sight = record { entries = []; refusals = []; latest = 0; accesses = []; had = []; stored = 0 };
 }
 
+-- the view of a pass, or none
 abbrev pub pass_of : View → PassView
 pass_of (Keeper u) = no_pass
 pass_of (Pass p) = p

@@ -50,7 +50,8 @@ pub fn test_all<N: TableName, A: Asks>(
         (record { guest = spent.0; quiet = spent.1; epoch = epoch; mark = asked.now.mark })
         (keeping_at seat.new.me).quiets (keeping_at seat.old.me)))) }
     ensures first { IfSome result (λ spent.
-        IsFirstBehind N.key (keeping_at seat.old.me) (keeping_at seat.new.me).quiets spent.0 spent.1) }
+        IsFirstBehind N.key (keeping_at seat.old.me) (keeping_at seat.new.me).quiets spent.0
+        spent.1) }
     ensures later { AreLater (keeping_at seat.old.me).quiets (keeping_at seat.new.me).quiets }
     ensures behind { IfSome result (λ spent.
         IsFarBehind N.key (keeping_at seat.old.me) spent.0 spent.1) }

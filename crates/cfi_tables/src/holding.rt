@@ -52,7 +52,8 @@ pub fn tell<N: TableName>(tables: &Tables<N>, seat: &mut Place, pass: &mut Pass<
     ensures pass { pass.new ≡ noted N.key (keeping_at seat.old.me) pass.old }
     ensures agrees { let keeping = keeping_at seat.old.me in
         AgreesWith N.key keeping.entries keeping.refusals pass.old.sight }
-    ensures heard { slice_index (keeping_at seat.old.me).quiets.heard pass.old.guest ≤ pass.old.quiet + 1 }
+    ensures heard { slice_index (keeping_at seat.old.me).quiets.heard pass.old.guest
+        ≤ pass.old.quiet + 1 }
     ensures seat { IsAt N.table seat.new.table_id seat.new.id seat.new.me
         (idle_view N.key (heard_of pass.old.guest pass.old.quiet (keeping_at seat.old.me))) }
 {

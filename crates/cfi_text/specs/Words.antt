@@ -27,5 +27,6 @@ unblanked text = drop (position_or_len is_solid text) text
 abbrev pub first_word : (text : List ℕ) → List ℕ
 first_word text = take (position_or_len is_blank (unblanked text)) (unblanked text)
 
+-- the text behind its first word
 abbrev pub after_word : (text : List ℕ) → List ℕ
 after_word text = drop (position_or_len is_blank (unblanked text)) (unblanked text)

@@ -14,6 +14,7 @@ use Rattle.cfi_drive.specs.Concluded.{Conclusion}
 abbrev pub refused_line : (name : List ℕ) → Refusal → List ℕ
 refused_line name refusal = codes "refused " ++ name ++ codes " " ++ refusal_text refusal ++ codes "\n"
 
+-- what is to be delivered of an answer
 abbrev pub output_of : Answer → Output
 output_of (answers.Ran run text) = outputs.Print DONE text
 output_of (answers.Print text) = outputs.Print DONE text

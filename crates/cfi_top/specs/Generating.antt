@@ -58,6 +58,7 @@ pub record AreRefusedFiles (seed count : ℕ) (name : List ℕ) (refusal : Refus
   pub is : plan_in (plan_text count) ≡ Ok plan
   pub why : IsOutOfOrder plan files name refusal ⊎ RefusesRunOf plan_name plan files name refusal
 
+-- drawn modules, or the files made of them, are refused for this
 abbrev pub RefusesGenerated : (seed count : ℕ) → (name : List ℕ) → Refusal → Type 0
 RefusesGenerated seed count name refusal =
     IsRefusedDrawn seed count name refusal ⊎ AreRefusedFiles seed count name refusal

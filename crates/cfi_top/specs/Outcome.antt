@@ -33,6 +33,7 @@ use Rattle.cfi_outside.specs.declared.reading.Unread.{Unread}
 abbrev pub IsVerifiedPlan : (bytes : List ℕ) → (files : List (List ℕ)) → (text : List ℕ) → Type 0
 IsVerifiedPlan = IsSaid IsVerifiedText
 
+-- the text is that of the groups of the plan's modules
 abbrev pub IsGraphOfPlan : (bytes : List ℕ) → (files : List (List ℕ)) → (text : List ℕ) → Type 0
 IsGraphOfPlan = IsSaid (λ plan. IsGraphText plan.code_words)
 

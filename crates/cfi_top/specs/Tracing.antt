@@ -60,6 +60,7 @@ IsTraceAnswer words shelf shelf' answer =
 abbrev pub trace_usage : List ℕ
 trace_usage = codes "usage: cfi_trace PLAN SCHEDULE\n"
 
+-- what is to be delivered of an answer of the program of traces
 abbrev pub trace_output : Answer → Output
 trace_output answers.Usage = outputs.Print USAGE trace_usage
 trace_output answer = output_of answer

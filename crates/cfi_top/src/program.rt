@@ -286,7 +286,8 @@ pub fn top<F: Shelf, S: Sink, G: Gate, R: Threads + Wait + Sync>(
         (result.status ≡ USAGE) ⊎ (result.status ≡ WRITE_FAULT) ⊎ (result.status ≡ MEMORY) }
     ensures read_fault { result.status ≡ READ_FAULT →
         Rose (F.seen shelf.old).faults (F.seen shelf.new).faults }
-    ensures missed { result.status ≡ NO_FILE → Rose (F.seen shelf.old).misses (F.seen shelf.new).misses }
+    ensures missed { result.status ≡ NO_FILE
+        → Rose (F.seen shelf.old).misses (F.seen shelf.new).misses }
     ensures unread { (result.status ≡ READ_FAULT) ⊎ (result.status ≡ NO_FILE) →
         IsStopped (texts words.now)
         (F.seen shelf.old)
@@ -303,18 +304,19 @@ pub fn top<F: Shelf, S: Sink, G: Gate, R: Threads + Wait + Sync>(
     ensures within { result.status ≤ MEMORY }
 
     // Valid input gives 0 or 6, where no count rises.
-    ensures valid { IfSome (F.seen shelf.old).files (λ told. IsValid (texts words.now) told → IsSteady
-        (F.seen shelf.old)
+    ensures valid { IfSome (F.seen shelf.old).files (λ told. IsValid (texts words.now) told →
+        IsSteady (F.seen shelf.old)
         (F.seen shelf.new)
         (S.seen sink.old)
         (S.seen sink.new) →
         (result.status ≡ DONE) ⊎ (result.status ≡ MEMORY)) }
 
     // All files stay but the one that the command saves, and that one too but at 0, and at 4 where the shelf failed.
-    ensures elsewhere { WhereKeptTold (F.seen shelf.old).files (F.seen shelf.new).files (λ told told'.
-        (name : List ℕ) → ¬ IsSavedBy (texts words.now) name → told' name ≡ told name) }
-    ensures same { ((F.seen shelf.new).files ≡ (F.seen shelf.old).files) ⊎ (Saves (texts words.now) ×
-        ((result.status ≡ DONE) ⊎ ((result.status ≡ WRITE_FAULT) ×
+    ensures elsewhere { WhereKeptTold (F.seen shelf.old).files (F.seen shelf.new).files
+        (λ told told'. (name : List ℕ) → ¬ IsSavedBy (texts words.now) name →
+        told' name ≡ told name) }
+    ensures same { ((F.seen shelf.new).files ≡ (F.seen shelf.old).files)
+        ⊎ (Saves (texts words.now) × ((result.status ≡ DONE) ⊎ ((result.status ≡ WRITE_FAULT) ×
         Rose (F.seen shelf.old).faults (F.seen shelf.new).faults))) }
 {
     run_words(rt, alloc, words, shelf, sink, gate)

@@ -93,9 +93,8 @@ fn trace_over<F: Shelf>(
 ) -> Result<Answer, AllocError>
     requires one { length files ≡ 1 }
     requires short { All IsShort files }
-    ensures answer { (bytes : List ℕ) → files ≡ bytes ∷ [] → IfOk result (TraceGoesOn plan schedule bytes
-        (F.seen shelf.old)
-        (F.seen shelf.new)) }
+    ensures answer { (bytes : List ℕ) → files ≡ bytes ∷ [] → IfOk result
+        (TraceGoesOn plan schedule bytes (F.seen shelf.old) (F.seen shelf.new)) }
     ensures same { (F.seen shelf.new).files ≡ (F.seen shelf.old).files }
     ensures faults { (F.seen shelf.old).faults ≤ (F.seen shelf.new).faults }
     ensures misses { (F.seen shelf.old).misses ≤ (F.seen shelf.new).misses }

@@ -6,6 +6,7 @@ pub record Node : Type 0 where
   pub kind : ℕ
   pub fields : List ℕ
 
+-- a node, of its parts
 abbrev pub make_node : (kind : ℕ) → (fields : List ℕ) → Node
 make_node kind fields = record { kind = kind; fields = fields }
 

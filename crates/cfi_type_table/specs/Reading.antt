@@ -17,6 +17,7 @@ ReadingFails (BadNode k) read = read ≡ Err (BadNode k)
 ReadingFails (BadIndex k) read = read ≡ Err (BadIndex k)
 ReadingFails Short read = read ≡ Err Short
 
+-- what was read is what the definition reads, or the fault that it meets
 abbrev pub ReadingGives : {X Y : Type 0} → (X → Y) → Result X TypeFault → Result Y TypeFault → Type 0
 ReadingGives view (Ok x) read = read ≡ Ok (view x)
 ReadingGives view (Err e) read = ReadingFails e read
@@ -25,6 +26,7 @@ ReadingGives view (Err e) read = ReadingFails e read
 abbrev pub word_or : {E : Type 0} → (short : E) → List ℕ → Result (ℕ × List ℕ) E
 word_or short bytes = if nat_lt (length bytes) 4 then Err short else Ok (from_le_bytes w32 (take 4 bytes), drop 4 bytes)
 
+-- the next word, or a fault where none is left
 abbrev pub next_word : List ℕ → Result (ℕ × List ℕ) TypeFault
 next_word bytes = word_or Short bytes
 
@@ -54,6 +56,7 @@ stray_from count k [] = None
 stray_from count k (x ∷ xs) =
     if list_all (λ f. nat_lt f count) (nodes_of x) then stray_from count (suc k) xs else Some k
 
+-- a table without a bad node, or the fault of its first
 abbrev pub judged : List Node → Option ℕ → Result (List Node) TypeFault
 judged xs None = Ok xs
 judged xs (Some k) = Err (BadIndex k)

@@ -7,12 +7,15 @@ use Rattle.cfi_word.specs.declared.limits.TheConstants.{MAX_NODES}
 use Rattle.cfi_type_table.specs.Node.{Node}
 use Rattle.cfi_type_table.specs.Kind.{nodes_of, has_arity, field_fits}
 
+-- the bytes of a word
 abbrev pub word : ℕ → List ℕ
 word n = to_le_bytes w32 n
 
+-- the bytes of a node
 abbrev pub node_bytes : Node → List ℕ
 node_bytes x = word x.kind ++ (word (length x.fields) ++ flat_map word x.fields)
 
+-- the bytes of a type table
 abbrev pub spelling : List Node → List ℕ
 spelling xs = word (length xs) ++ flat_map node_bytes xs
 

@@ -46,7 +46,8 @@ fn fields_from(
     count: u32,
     bytes: &[u8],
 ) -> Result<(Vec<u32>, &[u8]), TypeFault>
-    ensures { ReadingGives (λ x. (x.0.items, x.1.now)) result (fields_at number kind 0 count bytes.now) }
+    ensures { ReadingGives (λ x. (x.0.items, x.1.now)) result
+        (fields_at number kind 0 count bytes.now) }
 {
     let mut fields = Vec::with_capacity(alloc, count as usize)?;
     let mut rest = bytes;

@@ -64,6 +64,7 @@ bary_address slot = BARY + 4 * slot
 abbrev pub high_insn : (slot : ℕ) → Insn
 high_insn slot = insns.Lui 28 (high_of (bary_address slot))
 
+-- the load of a slot's word
 abbrev pub low_insn : (slot : ℕ) → Insn
 low_insn slot = insns.Load Lw 29 28 (low_of (bary_address slot))
 

@@ -12,5 +12,6 @@ pub record Course : Type 0 where
   pub journal : List Entry
   pub end : JournalState
 
+-- the journal leads from the plan's opening to the end
 abbrev pub IsCourse : Course → Type 0
 IsCourse c = IsJournal c.plan c.modules c.journal c.end

@@ -15,9 +15,11 @@ hello_bytes =
     ∷ 0x93 ∷ 0x08 ∷ 0x10 ∷ 0x00 ∷ 0x13 ∷ 0x05 ∷ 0x70 ∷ 0x00 ∷ 0x73 ∷ 0x00 ∷ 0x00 ∷ 0x00
     ∷ 0x6f ∷ 0x00 ∷ 0x00 ∷ 0x00 ∷ []
 
+-- the module of the bare file
 abbrev pub hello_module : Module
 hello_module = bare_module hello_bytes
 
+-- its line in a report
 abbrev pub hello_line : ModuleLine
 hello_line = record {
   number = 0;
@@ -40,6 +42,7 @@ hello_part out = record {
   steps = 6;
 }
 
+-- its report, where the guest has put this
 abbrev pub hello_report : (out : List ℕ) → Report
 hello_report out = record {
   epoch = 0;

@@ -13,6 +13,7 @@ abbrev pub EntersBy : (bare : Bool) → (starts : List Placed) → (entry : List
 EntersBy true starts entry address = address ≡ 4 * FIRST_BASE
 EntersBy false starts entry address = IsEntryIn starts entry address
 
+-- where a guest with this entry begins among the start modules
 abbrev pub EntersIn : Plan → (starts : List Placed) → (entry : List ℕ) → (address : ℕ) → Type 0
 EntersIn plan starts entry address = EntersBy (is_bare_plan plan) starts entry address
 
@@ -24,8 +25,10 @@ Enters plan starts entry = (address : ℕ) × EntersIn plan starts entry address
 abbrev pub EntersAt : (bare : Bool) → List LoadedModule → (entry : List ℕ) → (address : ℕ) → Type 0
 EntersAt bare loaded entry address = EntersBy bare (placed_modules (loaded_by 0 loaded)) entry address
 
+-- the same among the loaded modules
 abbrev pub GuestBegins : Plan → List LoadedModule → (entry : List ℕ) → (address : ℕ) → Type 0
 GuestBegins plan loaded entry address = EntersAt (is_bare_plan plan) loaded entry address
 
+-- it begins somewhere
 abbrev pub HasEntry : Plan → List LoadedModule → (entry : List ℕ) → Type 0
 HasEntry plan loaded entry = (address : ℕ) × GuestBegins plan loaded entry address

@@ -16,9 +16,11 @@ use Rattle.cfi_word.specs.declared.map.TheConstants.{FIRST_BASE}
 
 -- ---- that of the bare file
 
+-- the report of the file that puts one `H`
 abbrev pub hello : Report
 hello = hello_report (0x48 ∷ [])
 
+-- its guest's part
 abbrev pub hello_guest : GuestPart
 hello_guest = hello_part (0x48 ∷ [])
 
@@ -26,14 +28,17 @@ hello_guest = hello_part (0x48 ∷ [])
 abbrev pub hello_by : GuestPart → Report
 hello_by part = record hello { guests = part ∷ [] }
 
+-- it with another line for its module
 abbrev pub hello_with : ModuleLine → Report
 hello_with line = record hello { modules = line ∷ [] }
 
+-- it is a valid report of that file
 abbrev pub IsHello : Report → Type 0
 IsHello report = IsValidReport bare_plan (hello_module ∷ []) report
 
 -- ---- that of the run with a load
 
+-- the report of the run with a load
 abbrev pub opening : Report
 opening = load_report 1
 
@@ -41,6 +46,7 @@ opening = load_report 1
 abbrev pub opening_by : GuestPart → Report
 opening_by part = record opening { guests = part ∷ [] }
 
+-- it with another log of its guest
 abbrev pub opening_logged : List Log → Report
 opening_logged log = opening_by (record load_part { log = log })
 
@@ -62,5 +68,6 @@ opening_asked who = record opening { journal = record { who = who; what = LoadOk
 abbrev pub scripted : ScriptLine → Plan
 scripted line = record load_plan { script = line ∷ [] }
 
+-- it is a valid report of that run
 abbrev pub IsOpening : Plan → Report → Type 0
 IsOpening plan report = IsValidReport plan (opener ∷ plug ∷ []) report

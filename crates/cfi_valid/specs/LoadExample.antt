@@ -27,13 +27,16 @@ use Rattle.elf_read.specs.declared.object.Symbol.{Symbol}
 
 -- ---- modules of one Global function
 
+-- a Global symbol at the start of the text
 abbrev pub global_symbol : (name : List ℕ) → Symbol
 global_symbol name = record { name = name; binding = bindings.Global; place = places.Text; value = 0 }
 
+-- a function over all bytes
 abbrev pub whole_function : (name bytes : List ℕ) → Function
 whole_function name bytes =
     record { offset = 0; length = length bytes; ty = FUNCTION_TYPE; taken = true; name = name }
 
+-- a module of one such function, with these branches
 abbrev pub one_function : (name bytes : List ℕ) → (branches : List Kind) → IsTrue (have_cells 0 branches) → Module
 one_function name bytes branches cells = record {
   object = record {
@@ -65,6 +68,7 @@ opener_bytes =
     ++ (0xe7 ∷ 0x80 ∷ 0x0f ∷ 0x00 ∷ [])
     ++ (0x93 ∷ 0x08 ∷ 0x10 ∷ 0x00 ∷ 0x73 ∷ 0x00 ∷ 0x00 ∷ 0x00 ∷ 0x6f ∷ 0x00 ∷ 0x00 ∷ 0x00 ∷ [])
 
+-- the module that opens the other
 abbrev pub opener : Module
 opener = one_function (codes "main") opener_bytes (Call FUNCTION_TYPE ∷ []) refl
 
@@ -72,14 +76,17 @@ opener = one_function (codes "main") opener_bytes (Call FUNCTION_TYPE ∷ []) re
 abbrev pub plug_bytes : List ℕ
 plug_bytes = (0x93 ∷ 0x8f ∷ 0x00 ∷ 0x00 ∷ []) ++ check_middle ++ (0x67 ∷ 0x80 ∷ 0x0f ∷ 0x00 ∷ [])
 
+-- the other module
 abbrev pub plug : Module
 plug = one_function (codes "plug") plug_bytes (Return ∷ []) refl
 
 -- ---- the plan and the report
 
+-- a module's line in a plan
 abbrev pub planned : (name file : List ℕ) → (start : Bool) → PlanModule
 planned name file start = record { name = name; file = file; start = start }
 
+-- the plan of both
 abbrev pub load_plan : Plan
 load_plan = record {
   code_words = MIN_CODE_WORDS;
@@ -91,6 +98,7 @@ load_plan = record {
   script = [];
 }
 
+-- the line of a module without data
 abbrev pub line_at : (number : ℕ) → (name : List ℕ) → (base slot policy : ℕ) → ModuleLine
 line_at number name base slot policy = record {
   number = number;
@@ -101,6 +109,7 @@ line_at number name base slot policy = record {
   policy = policy;
 }
 
+-- its guest's part
 abbrev pub load_part : GuestPart
 load_part = record {
   number = 0;

@@ -69,6 +69,7 @@ tells_versions guest number (Guest asking) (RefreshOk epoch) = false
 tells_versions guest number (Guest asking) (RefreshVersions late quiet) = false
 tells_versions guest number (Guest asking) RefreshEpochs = false
 
+-- the entry tells that a load in the guest's name came too many versions ahead
 abbrev pub is_versions : (guest number : ℕ) → Entry → Bool
 is_versions guest number entry = tells_versions guest number entry.who entry.what
 

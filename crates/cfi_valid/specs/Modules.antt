@@ -19,6 +19,7 @@ use Rattle.cfi_valid.specs.Loaded.{LoadedModule, placed_modules, module_line_of}
 abbrev pub start_origin : (number : ℕ) → Origin
 start_origin number = record { number = number; policy = 0 }
 
+-- where the start modules come from, in plan order
 abbrev pub start_origins : Plan → List Origin
 start_origins plan = map start_origin (starts_from 0 plan.modules)
 
@@ -35,6 +36,7 @@ origins_in (RefreshOk epoch) = []
 origins_in (RefreshVersions guest quiet) = []
 origins_in RefreshEpochs = []
 
+-- where those come from that the journal says were loaded
 abbrev pub told_origins : (journal : List Entry) → List Origin
 told_origins journal = flat_map (λ (e : Entry). origins_in e.what) journal
 
@@ -42,6 +44,7 @@ told_origins journal = flat_map (λ (e : Entry). origins_in e.what) journal
 abbrev pub origin_of : LoadedModule → Origin
 origin_of l = record { number = l.number; policy = l.policy }
 
+-- the number that a loaded module has in the plan
 abbrev pub number_of : LoadedModule → ℕ
 number_of l = l.number
 

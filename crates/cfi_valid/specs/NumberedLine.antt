@@ -5,6 +5,7 @@ use Rattle.cfi_plan.specs.declared.journal.JournalLine.TheVariants.{LoadPlace, L
 use Rattle.cfi_series.specs.declared.numbers.FaultNumbers.{FaultNumbers}
 use Rattle.cfi_series.specs.declared.numbers.FaultNumbers.TheVariants.{Place, Verify}
 
+-- the line of a module's fault
 abbrev pub numbered_line : (number : ℕ) → FaultNumbers → JournalLine
 numbered_line number (Place fault) = LoadPlace number fault
 numbered_line number (Verify fault place) = LoadVerify number fault place

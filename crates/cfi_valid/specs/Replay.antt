@@ -21,6 +21,7 @@ singles_of (Pick policy count) = replicate count (Pick policy 1)
 singles_of (Open number address policy) = Open number address policy ∷ []
 singles_of (Cause number cause) = Cause number cause ∷ []
 
+-- a log with one entry for each pick
 abbrev pub singles : List Log → List Log
 singles log = flat_map singles_of log
 
@@ -36,6 +37,7 @@ given_after given (Pick policy count) = given
 given_after given (Open number address policy) = policy
 given_after given (Cause number cause) = given
 
+-- up to which policy a guest has the data of modules, after its log
 abbrev pub given_by : List Log → ℕ
 given_by log = fold given_after 0 log
 

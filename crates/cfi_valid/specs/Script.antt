@@ -35,6 +35,7 @@ call_of (lines.RefreshOk epoch) = Refresh
 call_of (lines.RefreshVersions guest quiet) = Refresh
 call_of lines.RefreshEpochs = Refresh
 
+-- the script asked
 abbrev pub is_script : Who → Bool
 is_script Script = true
 is_script (Guest number) = false

@@ -30,6 +30,7 @@ HasBegun code (Some (stops.Align address)) last begun = begun ≡ 0
 HasBegun code (Some stops.Fuel) last begun = IsBegun code (Some stops.Fuel) last begun
 HasBegun code None last begun = IsBegun code None last begun
 
+-- it is a check
 abbrev pub is_check : CodeUnit → Bool
 is_check (units.Check link rs1 imm slot) = true
 is_check unit = false

@@ -33,17 +33,21 @@ use Rattle.elf_read.specs.declared.object.Symbol.{Symbol}
 abbrev pub bytes_of_word : ℕ → List ℕ
 bytes_of_word word = word % 2 ^ 8 ∷ word / 2 ^ 8 % 2 ^ 8 ∷ word / 2 ^ 16 % 2 ^ 8 ∷ word / 2 ^ 24 ∷ []
 
+-- a symbol, of its parts
 abbrev pub symbol_with : (name : List ℕ) → Binding → Place → (value : ℕ) → Symbol
 symbol_with name binding place value = record { name = name; binding = binding; place = place; value = value }
 
+-- a relocation without an addend
 abbrev pub reloc_with : Area → (offset kind symbol : ℕ) → Reloc
 reloc_with area offset kind symbol =
     record { area = area; offset = offset; kind = kind; symbol = Some symbol; addend = pos 0 }
 
+-- a function, of its parts
 abbrev pub function_with : (name : List ℕ) → (offset size ty : ℕ) → (taken : Bool) → Function
 function_with name offset size ty taken =
     record { offset = offset; length = size; ty = ty; taken = taken; name = name }
 
+-- a module, of its parts, whose cells lie in its data
 abbrev pub module_with : (words static_data : List ℕ) → List Symbol → List Reloc → List Node → List Function
     → (branches : List Kind) → IsTrue (have_cells (length static_data) branches) → Module
 module_with words static_data symbols relocs types functions branches cells = record {
@@ -62,6 +66,7 @@ module_with words static_data symbols relocs types functions branches cells = re
 
 -- ---- `lib`
 
+-- the words of `lib`: checks, and pairs under relocations
 abbrev pub lib_words : List ℕ
 lib_words =
     0x00a50533 ∷ 0x00008f93 ∷ 0x012fdf13 ∷ 0x020f1463 ∷ 0x20000e37 ∷ 0x000e2e83 ∷ 0x10000f37 ∷ 0x01ff0f33
@@ -79,12 +84,15 @@ lib_words =
     ∷ 0x012fdf13 ∷ 0x020f1463 ∷ 0x20000e37 ∷ 0x014e2e83 ∷ 0x10000f37 ∷ 0x01ff0f33 ∷ 0x000f2f03 ∷ 0x01ee8a63
     ∷ 0x01df4f33 ∷ 0x010f1f13 ∷ 0xfe0f10e3 ∷ 0x00100073 ∷ 0x000f8067 ∷ []
 
+-- its types: an int, and a function of one that gives one
 abbrev pub lib_types : List Node
 lib_types = make_node 1 (32 ∷ 1 ∷ []) ∷ make_node 7 (0 ∷ 0 ∷ []) ∷ []
 
+-- its branches: returns, a tail call by the table, and a switch
 abbrev pub lib_branches : List Kind
 lib_branches = Return ∷ Return ∷ Tail 1 ∷ Switch (316 ∷ 376 ∷ []) ∷ Return ∷ Return ∷ []
 
+-- the module
 abbrev pub lib_module : Module
 lib_module =
     module_with lib_words (replicate 16 0)
@@ -115,6 +123,7 @@ lib_module =
 
 -- ---- `main`
 
+-- the words of `main`
 abbrev pub main_words : List ℕ
 main_words =
     0x00000513 ∷ 0x000000ef ∷ 0x00200893 ∷ 0x00000073 ∷ 0x00100513 ∷ 0x000000ef ∷ 0x00200893 ∷ 0x00000073
@@ -123,12 +132,15 @@ main_words =
     ∷ 0xfe0f10e3 ∷ 0x00100073 ∷ 0x000f80e7 ∷ 0x00200893 ∷ 0x00000073 ∷ 0x00000513 ∷ 0x00100893 ∷ 0x00000073
     ∷ 0x0000006f ∷ []
 
+-- its types: an int, a function of one, nothing, and a function that gives nothing
 abbrev pub main_types : List Node
 main_types = make_node 1 (32 ∷ 1 ∷ []) ∷ make_node 7 (0 ∷ 0 ∷ []) ∷ make_node 0 [] ∷ make_node 7 (2 ∷ []) ∷ []
 
+-- its branch: the call of what was opened
 abbrev pub main_branches : List Kind
 main_branches = Call 1 ∷ []
 
+-- the module
 abbrev pub main_module : Module
 main_module =
     module_with main_words []
@@ -143,17 +155,21 @@ main_module =
 
 -- ---- `plug`
 
+-- the words of `plug`
 abbrev pub plug_words : List ℕ
 plug_words =
     0x03c50513 ∷ 0x00008f93 ∷ 0x012fdf13 ∷ 0x020f1463 ∷ 0x20000e37 ∷ 0x000e2e83 ∷ 0x10000f37 ∷ 0x01ff0f33
     ∷ 0x000f2f03 ∷ 0x01ee8a63 ∷ 0x01df4f33 ∷ 0x010f1f13 ∷ 0xfe0f10e3 ∷ 0x00100073 ∷ 0x000f8067 ∷ []
 
+-- its types: an int, and a function of one
 abbrev pub plug_types : List Node
 plug_types = make_node 1 (32 ∷ 1 ∷ []) ∷ make_node 7 (0 ∷ 0 ∷ []) ∷ []
 
+-- its branch: a return
 abbrev pub plug_branches : List Kind
 plug_branches = Return ∷ []
 
+-- the module
 abbrev pub plug_module : Module
 plug_module =
     module_with plug_words []
@@ -165,6 +181,7 @@ plug_module =
 
 -- ---- the plan and the report, where the guest put these bytes
 
+-- the plan of the three
 abbrev pub table_plan : Plan
 table_plan = record {
   code_words = MAX_CODE_WORDS;
@@ -179,6 +196,7 @@ table_plan = record {
   script = [];
 }
 
+-- a module's line in a report
 abbrev pub placed_line : (number : ℕ) → (name : List ℕ) → (base slot data_base policy : ℕ) → ModuleLine
 placed_line number name base slot data_base policy = record {
   number = number;
@@ -189,6 +207,7 @@ placed_line number name base slot data_base policy = record {
   policy = policy;
 }
 
+-- the part of the guest, where it has put this
 abbrev pub table_part : (out : List ℕ) → GuestPart
 table_part out = record {
   number = 0;
@@ -200,6 +219,7 @@ table_part out = record {
   steps = 102;
 }
 
+-- the report of the run
 abbrev pub table_report : (out : List ℕ) → Report
 table_report out = record {
   epoch = 1;

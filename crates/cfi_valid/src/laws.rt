@@ -30,19 +30,23 @@ pub fn journals_lead_to_one_state()
 
 /// One line more is one fact more, and nothing before it is looked at again.
 pub fn journals_grow_by_a_line()
-    ensures more { (plan : Plan) (modules : List Module) (old mid new : JournalState) (journal : List Entry)
-        (entry : Entry) → EntriesLead plan modules old journal mid → EntryLeads plan modules mid entry new →
+    ensures more { (plan : Plan) (modules : List Module) (old mid new : JournalState)
+        (journal : List Entry) (entry : Entry) → EntriesLead plan modules old journal mid →
+        EntryLeads plan modules mid entry new →
         EntriesLead plan modules old (journal ++ entry ∷ []) new }
-    ensures last { (plan : Plan) (modules : List Module) (old new : JournalState) (journal : List Entry)
-        (entry : Entry) → EntriesLead plan modules old (journal ++ entry ∷ []) new →
-        (mid : JournalState) × EntriesLead plan modules old journal mid × EntryLeads plan modules mid entry new }
+    ensures last { (plan : Plan) (modules : List Module) (old new : JournalState)
+        (journal : List Entry) (entry : Entry) →
+        EntriesLead plan modules old (journal ++ entry ∷ []) new →
+        (mid : JournalState) × EntriesLead plan modules old journal mid
+        × EntryLeads plan modules mid entry new }
 {}
 
 /// The lines that say that a module was loaded tell which modules a report has and where they stand, whether the
 /// journal is legal or not; a legal one leads to these.
 pub fn lines_tell_modules()
-    ensures one { (plan : Plan) (modules : List Module) (report : Report) (a b : List LoadedModule) →
-        HasModules plan modules report a → HasModules plan modules report b → a ≡ b }
+    ensures one { (plan : Plan) (modules : List Module) (report : Report)
+        (a b : List LoadedModule) → HasModules plan modules report a →
+        HasModules plan modules report b → a ≡ b }
     ensures legal { (plan : Plan) (modules : List Module) (report : Report) (end : JournalState) →
         IsJournal plan modules report.journal end →
         report.modules ≡ map (module_line_of plan.modules) end.loaded →
@@ -60,13 +64,14 @@ pub fn journals_make_a_series()
 /// the same, where it ran as many units or no fuel stopped it: what it put, and why it stopped, are told by its log.
 pub fn valid_reports_agree()
     ensures { (plan : Plan) (modules : List Module) (a b : Report) →
-        IsValidReport plan modules a → IsValidReport plan modules b → a.journal ≡ b.journal → AgreeIn a b }
+        IsValidReport plan modules a → IsValidReport plan modules b → a.journal ≡ b.journal
+        → AgreeIn a b }
 {}
 
 /// Where a journal goes on, each policy finds loaded what it found loaded, and what a guest has logged still fits.
 pub fn what_was_logged_stays()
-    ensures later { (plan : Plan) (modules : List Module) (old new : JournalState) (journal : List Entry) →
-        EntriesLead plan modules old journal new → IsLater old new }
+    ensures later { (plan : Plan) (modules : List Module) (old new : JournalState)
+        (journal : List Entry) → EntriesLead plan modules old journal new → IsLater old new }
     ensures loaded { LoadedStays }
     ensures log { LogStays }
 {}
@@ -106,14 +111,16 @@ pub fn some_report_is_valid()
 
 /// The same with one byte of output more is not.
 pub fn more_output_is_not_valid()
-    ensures { (byte : ℕ) → ¬ IsValidReport bare_plan (hello_module ∷ []) (hello_report (0x48 ∷ byte ∷ [])) }
+    ensures { (byte : ℕ)
+        → ¬ IsValidReport bare_plan (hello_module ∷ []) (hello_report (0x48 ∷ byte ∷ [])) }
 {}
 
 /// The report of a run in which a guest opens a module, calls it and returns is valid, and its journal's line can
 /// have no other epoch.
 pub fn some_report_of_a_load_is_valid()
     ensures valid { IsValidReport load_plan (opener ∷ plug ∷ []) (load_report 1) }
-    ensures epoch { (epoch : ℕ) → IsValidReport load_plan (opener ∷ plug ∷ []) (load_report epoch) → epoch ≡ 1 }
+    ensures epoch { (epoch : ℕ) → IsValidReport load_plan (opener ∷ plug ∷ []) (load_report epoch)
+        → epoch ≡ 1 }
 {}
 
 /// The report of a run of three modules, with tables in data, relocations, cases, tail calls and a load, is valid, and
@@ -121,6 +128,7 @@ pub fn some_report_of_a_load_is_valid()
 pub fn some_report_with_tables_is_valid()
     ensures valid { IsValidReport table_plan (lib_module ∷ main_module ∷ plug_module ∷ [])
         (table_report (10 ∷ 66 ∷ 67 ∷ [])) }
-    ensures more { (byte : ℕ) → ¬ IsValidReport table_plan (lib_module ∷ main_module ∷ plug_module ∷ [])
+    ensures more { (byte : ℕ)
+        → ¬ IsValidReport table_plan (lib_module ∷ main_module ∷ plug_module ∷ [])
         (table_report (10 ∷ 66 ∷ 67 ∷ byte ∷ [])) }
 {}

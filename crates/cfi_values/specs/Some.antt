@@ -2,6 +2,7 @@
 use Rattle.std.specs.Prelude.{Bool, false, Option, Some, None, option_and_then}
 
 infixl 10 ◌>>=◌
+-- a value goes on to the next step, if there is one
 abbrev pub ◌>>=◌ : {A B : Type 0} → Option A → (A → Option B) → Option B
 o >>= f = option_and_then f o
 

@@ -2,6 +2,7 @@
 use Rattle.std.specs.Prelude.{Bool, Result, Ok, Err, if◌then◌else◌}
 
 infixl 10 ◌>>=◌
+-- a value goes on to the next step, and a fault is the answer
 abbrev pub ◌>>=◌ : {A B E : Type 0} → Result A E → (A → Result B E) → Result B E
 (Ok value) >>= next = next value
 (Err fault) >>= next = Err fault

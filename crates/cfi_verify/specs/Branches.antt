@@ -45,5 +45,6 @@ AreEntries m spots at kind = AllEntries (IsEntry m spots at) kind
 abbrev pub AreEntriesIn : Placed → List Spot → (at : ℕ) → Option Kind → Type 0
 AreEntriesIn m spots at kind = AllEntriesIn (IsEntry m spots at) kind
 
+-- the entries of a check's record, where it is a switch, lie in its function
 abbrev pub EntriesFit : Placed → List Spot → (number : ℕ) → CheckSpot → Type 0
 EntriesFit m spots number check = AreEntriesIn m spots check.at (slice_get m.branches number)

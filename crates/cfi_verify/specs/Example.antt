@@ -6,9 +6,11 @@ use Rattle.cfi_aux.specs.declared.placed.Placed.{Placed}
 use Rattle.cfi_aux.specs.declared.placed.PlacedFunction.{PlacedFunction}
 use Rattle.cfi_word.specs.declared.map.TheConstants.{FIRST_BASE, DATA_START}
 
+-- its one function
 abbrev pub loop_function : PlacedFunction
 loop_function = record { first = 0; count = 1; ty = 1; taken = false; global = false; name = [] }
 
+-- the module
 abbrev pub loop_module : Placed
 loop_module = record {
   base = FIRST_BASE;

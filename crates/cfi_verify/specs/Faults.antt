@@ -17,6 +17,7 @@ use Rattle.cfi_verify.specs.Branches.{NamesSlot, KindFits, EntriesFit}
 abbrev pub unit_place : (number : ℕ) → Spot → ℕ
 unit_place number spot = 4 * spot.at
 
+-- where a check stands, in bytes
 abbrev pub check_place : (number : ℕ) → CheckSpot → ℕ
 check_place number check = 4 * check.at
 
@@ -52,6 +53,7 @@ fault_number (faults.Kinds o) = 8
 fault_number (faults.Switch k) = 9
 fault_number faults.Memory = 10
 
+-- the place that a fault names
 abbrev pub fault_place : VerifyFault → ℕ
 fault_place faults.Empty = 0
 fault_place (faults.Illegal o) = o
@@ -98,5 +100,6 @@ pub record IsVerifiedAs (m : Placed) (loaded : List Placed) (spots : List Spot) 
   pub records : length m.branches ≤ length (checks_of spots)
   pub switches : Each (checks_of spots) (EntriesFit m spots)
 
+-- no fault stands against the module beside those that are loaded
 abbrev pub IsVerified : (m : Placed) → (loaded : List Placed) → Type 0
 IsVerified m loaded = (spots : List Spot) × IsVerifiedAs m loaded spots

@@ -13,6 +13,7 @@ abbrev pub check_in : (at : ℕ) → CodeUnit → Option CheckSpot
 check_in at (units.Check link rs1 imm slot) = Some (record { at = at; link = link; slot = slot })
 check_in at unit = None
 
+-- the check of a unit, if it is one
 abbrev pub check_of : Spot → Option CheckSpot
 check_of spot = check_in spot.at spot.unit
 

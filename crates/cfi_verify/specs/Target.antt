@@ -27,6 +27,7 @@ pub record IsAtHome (functions : List PlacedFunction) (spots : List Spot) (at to
 abbrev pub entries_in : Placed → List ℕ
 entries_in m = map (λ f. m.base + f.first) m.functions
 
+-- where the functions of modules begin
 abbrev pub entries_of : List Placed → List ℕ
 entries_of ms = flat_map entries_in ms
 
@@ -45,5 +46,6 @@ MayLead m loaded spots at (Jump true off) = LeadsToEntry m loaded at off
 MayLead m loaded spots at (Jump false off) = LeadsHome m spots at off ⊎ LeadsToEntry m loaded at off
 MayLead m loaded spots at unit = ⊤
 
+-- a unit of the module leads where it may
 abbrev pub LeadsWell : Placed → (loaded : List Placed) → List Spot → (number : ℕ) → Spot → Type 0
 LeadsWell m loaded spots number spot = MayLead m loaded spots spot.at spot.unit

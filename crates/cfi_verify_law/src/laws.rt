@@ -7,8 +7,10 @@ ghost use Rattle.cfi_verify.specs.declared.fault.VerifyFault.{VerifyFault};
 
 /// No fault stands against a module exactly where it is verified: its words are units, and each row holds of them.
 pub fn no_fault_is_verified()
-    ensures verified { (m : Placed) (loaded : List Placed) → Verifies m loaded → IsVerified m loaded }
-    ensures no_fault { (m : Placed) (loaded : List Placed) → IsVerified m loaded → Verifies m loaded }
+    ensures verified { (m : Placed) (loaded : List Placed) → Verifies m loaded
+        → IsVerified m loaded }
+    ensures no_fault { (m : Placed) (loaded : List Placed) → IsVerified m loaded
+        → Verifies m loaded }
 {}
 
 /// Each module is verified, or some fault is its first: with `one_first_fault` of `cfi_verify`, exactly one is.

@@ -23,10 +23,12 @@ pub record IsLastPassed (w : World) (run : List Event) (guest epoch test now : �
   pub past : test < now
   pub last : (later other : ℕ) → test < later → later < now → PassesAt w run guest other later → ⊥
 
+-- the guest has passed no test before this moment, and the epoch is the first
 pub record HasPassedNone (w : World) (run : List Event) (guest epoch now : ℕ) : Type 0 where
   pub none : (moment other : ℕ) → moment < now → PassesAt w run guest other moment → ⊥
   pub first : epoch ≡ w.tables.first
 
+-- the epoch is that of the last test that the guest has passed before this moment, or the first
 abbrev pub IsPassedLast : World → (run : List Event) → (guest epoch now : ℕ) → Type 0
 IsPassedLast w run guest epoch now =
     HasPassedNone w run guest epoch now ⊎ ((test : ℕ) × IsLastPassed w run guest epoch test now)

@@ -32,6 +32,7 @@ use Rattle.cfi_world.specs.declared.event.Event.TheVariants.{Guest}
 abbrev pub bary_in : World → (slot : ℕ) → ℕ
 bary_in w slot = word_at w.tables (Bary slot)
 
+-- the word of a target
 abbrev pub tary_in : World → (target : ℕ) → ℕ
 tary_in w target = word_at w.tables (Tary (tary_index w.tables.code_words target))
 
@@ -44,6 +45,7 @@ pub record IsHeldThroughout (w : World) (run : List Event) (slot target from to 
       IsInForce (world_at w run moment).tables (epoch_in (tary_in (world_at w run to) target))
       (policy_in (tary_in (world_at w run to) target))
 
+-- a try that finds two words of one version finds them of one epoch, which was in force throughout
 abbrev pub PicksHoldThroughout : Type 0
 PicksHoldThroughout =
     (w : World) → IsWorld w → (run : List Event) → MayTurns w run →
@@ -73,6 +75,7 @@ pub record MeetsUpdate (old new : World) (slot target : ℕ) : Type 0 where
   pub stored : HasStoredTary new.tables (epoch_in (tary_in new target))
   pub to_store : HasBaryToStore old.tables (epoch_in (tary_in new target))
 
+-- a try that finds two versions has met an update
 abbrev pub RepeatsMeetUpdates : Type 0
 RepeatsMeetUpdates =
     (w : World) → IsWorld w → (run : List Event) → MayTurns w run →
@@ -98,6 +101,7 @@ pub record IsRepeatedFor (h : History) (code : List ℕ) (retries : ℕ) (s : St
   pub bary : now.bary ≡ r.bary
   pub tary : now.tary ≡ r.tary
 
+-- a check goes back to its start for the two words that it has found alone
 abbrev pub RepeatsAreForOwnWords : Type 0
 RepeatsAreForOwnWords =
     (w : World) → IsWorld w → (guest : ℕ) (r now : Raw) → slice_get w.guests guest ≡ Some r →
@@ -140,6 +144,7 @@ pub record IsPlaced (w : World) (r : Raw) : Type 0 where
   pub steps : r.base.stop ≡ None → r.waits ≡ None →
       HasStepBy (insn_of (word_at w.tables (Code (r.base.pc / 4)))) r
 
+-- each guest stands in a unit, or between two
 abbrev pub GuestsStandInUnits : Type 0
 GuestsStandInUnits = (w : World) → IsWorld w → (guest : ℕ) (r : Raw) → slice_get w.guests guest ≡ Some r → IsPlaced w r
 
@@ -151,6 +156,7 @@ pub record HasPassed (h : History) (slot target : ℕ) (r : Raw) : Type 0 where
   pub tried : IsTriedIn h epoch slot target (record { bary = r.bary; tary = r.tary; reply = None })
   pub same : slot_class h epoch slot ≡ target_class h epoch target
 
+-- the last jump of a check leads where the check has found that it may
 abbrev pub LastWordsAreLedTo : Type 0
 LastWordsAreLedTo =
     (w : World) → IsTables w.tables → (r : Raw) (placed : IsPlaced w r) →

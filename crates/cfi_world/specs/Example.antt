@@ -18,6 +18,7 @@ use Rattle.cfi_world.specs.declared.event.Turned.TheVariants.{Did, Asks, Version
 abbrev pub open_code : List ℕ
 open_code = (0x400893 ∷ 0x73 ∷ 0x6f ∷ []) ++ (0x6f ∷ [])
 
+-- the image of both modules, before any is loaded
 abbrev pub open_image : Image
 open_image = record {
   code = replicate FIRST_BASE 0 ++ open_code ++ replicate (MIN_CODE_WORDS - FIRST_BASE - 4) 0;
@@ -25,6 +26,7 @@ open_image = record {
   bary = replicate (slots_of MIN_CODE_WORDS) FIELD_MAX;
 }
 
+-- the two guests, each at its entry
 abbrev pub open_guests : List Raw
 open_guests = raw_opened 0 (4 * FIRST_BASE) [] ∷ raw_opened 1 (4 * (FIRST_BASE + 3)) [] ∷ []
 
@@ -36,9 +38,11 @@ open_world = opened_world MIN_CODE_WORDS MIN_VERSIONS 0 open_image open_guests 3
 abbrev pub last_world : World
 last_world = opened_world MIN_CODE_WORDS MIN_VERSIONS MAX_EPOCH open_image open_guests 3 3
 
+-- events where no epoch is left
 abbrev pub last_events : List Event
 last_events = Begin None ∷ Begin (Some open_image) ∷ Update ∷ []
 
+-- their answers
 abbrev pub last_answers : List Turned
 last_answers = EpochsSpent ∷ EpochsSpent ∷ Nothing ∷ []
 
@@ -53,6 +57,7 @@ guest_events =
     Guest 2 ∷ Guest 0 ∷ Guest 0 ∷ Guest 0 ∷ Guest 0 ∷ unloaded ∷ unloaded ∷ Guest 0 ∷ Guest 0 ∷ Guest 0 ∷ Guest 0
     ∷ Release 1 ∷ []
 
+-- the answers to the events of guests
 abbrev pub guest_answers : List Turned
 guest_answers =
     Nothing ∷ Did ∷ Did ∷ Asks 0 0 ∷ Nothing ∷ Did ∷ Nothing ∷ Did ∷ Did ∷ Did ∷ Nothing ∷ Nothing ∷ []
@@ -62,9 +67,11 @@ guest_answers =
 abbrev pub refresh_count : ℕ
 refresh_count = GUESTS + (stores_of MIN_CODE_WORDS - MIN_CODE_WORDS)
 
+-- a refresh, and events that it keeps from coming
 abbrev pub refresh_events : List Event
 refresh_events = Begin None ∷ Begin None ∷ Release 0 ∷ replicate refresh_count Update
 
+-- their answers
 abbrev pub refresh_answers : List Turned
 refresh_answers = Did ∷ Nothing ∷ Nothing ∷ replicate refresh_count Did
 
@@ -72,12 +79,15 @@ refresh_answers = Did ∷ Nothing ∷ Nothing ∷ replicate refresh_count Did
 abbrev pub refused_events : List Event
 refused_events = Update ∷ Release 0 ∷ Release 0 ∷ Begin None ∷ Update ∷ Update ∷ []
 
+-- the answers to a refresh for which a guest is too far behind
 abbrev pub refused_answers : List Turned
 refused_answers = Nothing ∷ Did ∷ Nothing ∷ Did ∷ Did ∷ VersionsSpent 1 0 ∷ []
 
+-- all events, in order
 abbrev pub open_events : List Event
 open_events = guest_events ++ (refresh_events ++ refused_events)
 
+-- their answers
 abbrev pub open_answers : List Turned
 open_answers = guest_answers ++ (refresh_answers ++ refused_answers)
 

@@ -94,6 +94,7 @@ abbrev pub OnlyUpdatesStore : Type 0
 OnlyUpdatesStore =
     (w : World) (event : Event) → (IsUpdates event → ⊥) → (turn_of w event).world.tables ≡ w.tables
 
+-- epoch and policy in force never fall
 abbrev pub ForceNeverFalls : Type 0
 ForceNeverFalls =
     (w : World) → IsWorld w → (event : Event) → MayTurn w event →
@@ -106,6 +107,7 @@ pub record IsBaryLoad (t : Tables) (slot : ℕ) : Type 0 where
   pub settled : epoch_in (word_at t (Bary slot)) ≤ epoch_in_force t
   pub unfinished : epoch_in (word_at t (Bary slot)) + 1 < next_epoch t → t.stored < stores_of t.code_words
 
+-- a load of a slot's word finds the word of an entry
 abbrev pub BaryLoads : Type 0
 BaryLoads = (t : Tables) → IsTables t → (slot : ℕ) → slot < slots_of t.code_words → IsBaryLoad t slot
 
@@ -116,6 +118,7 @@ pub record IsTaryLoad (t : Tables) (address : ℕ) : Type 0 where
   pub begun : epoch_in_force t < epoch_in (word_at t (Tary (tary_index t.code_words address)))
       → t.code_words < t.stored
 
+-- so does a load of an address's word
 abbrev pub TaryLoads : Type 0
 TaryLoads = (t : Tables) → IsTables t → (address : ℕ) → IsTaryLoad t address
 
@@ -145,5 +148,6 @@ OpensAWorld =
     CanOpen code_words versions first image guests fuel → room < 2 ^ 32 → fuel < 2 ^ 32 →
     IsWorld (opened_world code_words versions first image guests room fuel)
 
+-- a world stays one, whatever events it may be given
 abbrev pub StaysAWorld : Type 0
 StaysAWorld = (w : World) → IsWorld w → (events : List Event) → MayTurns w events → IsWorld (world_after w events)

@@ -40,6 +40,7 @@ pub record PassesAt (w : World) (run : List Event) (guest epoch moment : ℕ) : 
 abbrev pub LoadsBary : World → (run : List Event) → (guest slot moment : ℕ) → Type 0
 LoadsBary w run guest slot moment = (rd : ℕ) × ComesFor w run guest (Some (waits.Bary slot rd)) moment
 
+-- at this moment the guest loads the word of a target
 abbrev pub LoadsTary : World → (run : List Event) → (guest target moment : ℕ) → Type 0
 LoadsTary w run guest target moment = (rd : ℕ) × ComesFor w run guest (Some (waits.Tary target rd)) moment
 
@@ -49,6 +50,7 @@ LeavesTry w run guest moment =
     (slice_get (world_at w run (moment + 1)).guests guest ≡ slice_get (world_at w run moment).guests guest)
     ⊎ ComesFor w run guest None moment
 
+-- between two moments the guest does nothing of a try but fetch
 abbrev pub OnlyFetches : World → (run : List Event) → (guest from to : ℕ) → Type 0
 OnlyFetches w run guest from to = (moment : ℕ) → from < moment → moment < to → LeavesTry w run guest moment
 

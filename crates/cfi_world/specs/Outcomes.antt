@@ -27,6 +27,7 @@ IsAbsent w guest = slice_get w.guests guest ≡ None
 abbrev pub HasStopped : World → (guest : ℕ) → Type 0
 HasStopped w guest = (r : Raw) × (slice_get w.guests guest ≡ Some r) × (r.base.stop ≢ None)
 
+-- the guest is there and has not stopped
 abbrev pub IsGoing : World → (guest : ℕ) → Type 0
 IsGoing w guest = (r : Raw) × (slice_get w.guests guest ≡ Some r) × (r.base.stop ≡ None)
 

@@ -25,6 +25,7 @@ pub record IsOpened (image : Image) (number : ℕ) (r : Raw) : Type 0 where
   pub is : r ≡ raw_opened number entry fills
   pub start : IsStartIn image entry
 
+-- what a world may be opened for: a closed image and guests that are opened in it
 pub record CanOpen (code_words versions first : ℕ) (image : Image) (guests : List Raw) (fuel : ℕ) : Type 0 where
   pub versions_least : MIN_VERSIONS ≤ versions
   pub versions_most : versions ≤ MAX_VERSIONS
@@ -39,6 +40,7 @@ abbrev pub MayBegin : Tables → Option Image → Type 0
 MayBegin t None = ⊤
 MayBegin t (Some image) = IsLoad t.code_words (entry_at t (newest t)) (asked_entry t (Some image))
 
+-- an update may begin, and is not one too many
 pub record HasRoom (w : World) (image : Option Image) : Type 0 where
   pub room : w.updates < w.room
   pub may : MayBegin w.tables image
@@ -50,6 +52,7 @@ pub record MayAnswer (w : World) (reply : Reply) : Type 0 where
   pub few : reply.cause ≢ TOO_MANY
   pub inside : All LiesInData reply.fills
 
+-- the event is one that the world may be given: images fit its tables, and answers its guests
 abbrev pub MayTurn : World → Event → Type 0
 MayTurn w (events.Guest guest) = ⊤
 MayTurn w (events.Begin image) = HasRoom w image

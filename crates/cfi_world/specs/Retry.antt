@@ -38,6 +38,7 @@ check_code first load last =
 abbrev pub call_check : List ℕ
 call_check = check_code 0x28f93 0xe2e83 0xf80e7
 
+-- a check that returns, whose slot is loaded so
 abbrev pub return_check : (load : ℕ) → List ℕ
 return_check load = check_code 0x8f93 load 0xf8067
 
@@ -59,6 +60,7 @@ padded size front fill = front ++ replicate (size - length front) fill
 abbrev pub call_tary : List ℕ
 call_tary = replicate 32 0 ++ (2 ∷ (replicate 4 0 ++ (1 ∷ [])))
 
+-- the image of the caller and the function
 abbrev pub call_image : Image
 call_image = record {
   code = padded MIN_CODE_WORDS (replicate FIRST_BASE 0 ++ call_code) 0;
@@ -74,6 +76,7 @@ more_image = record {
   bary = padded (slots_of MIN_CODE_WORDS) (1 ∷ 2 ∷ 2 ∷ []) FIELD_MAX;
 }
 
+-- the guest, at the caller's entry
 abbrev pub call_guests : List Raw
 call_guests = raw_opened 0 (4 * FIRST_BASE) [] ∷ []
 
@@ -86,9 +89,11 @@ call_world versions = opened_world MIN_CODE_WORDS versions 0 call_image call_gue
 abbrev pub goes : (count : ℕ) → List Event
 goes count = replicate count (Guest 0)
 
+-- how many events lead to the load of the slot's word
 abbrev pub to_bary : ℕ
 to_bary = 8
 
+-- how many lead on to where the check begins again
 abbrev pub to_retry : ℕ
 to_retry = 8
 
@@ -96,9 +101,11 @@ to_retry = 8
 abbrev pub load_count : ℕ
 load_count = GUESTS + length more_code + (stores_of MIN_CODE_WORDS - MIN_CODE_WORDS)
 
+-- the load of one function more, as far as so many accesses of the updater
 abbrev pub loads : (count : ℕ) → List Event
 loads count = Begin (Some more_image) ∷ replicate count Update
 
+-- a refresh, to its end
 abbrev pub refresh : List Event
 refresh = Begin None ∷ replicate refresh_count Update
 
@@ -106,6 +113,7 @@ refresh = Begin None ∷ replicate refresh_count Update
 abbrev pub retry_events : List Event
 retry_events = goes to_bary ++ (loads load_count ++ goes to_retry)
 
+-- the load comes between the check's two loads, and the guest goes on to its end
 abbrev pub load_events : List Event
 load_events = goes to_bary ++ (loads load_count ++ goes (to_retry + 29))
 
@@ -113,12 +121,15 @@ load_events = goes to_bary ++ (loads load_count ++ goes (to_retry + 29))
 abbrev pub refused_events : List Event
 refused_events = Begin None ∷ Update ∷ []
 
+-- a refresh comes between them; another is refused before the guest is through, and comes after its next service
 abbrev pub refresh_events : List Event
 refresh_events = goes to_bary ++ (refresh ++ (refused_events ++ (goes 34 ++ (refresh ++ goes 3))))
 
+-- so many events that have happened
 abbrev pub all_did : (count : ℕ) → List Turned
 all_did count = replicate count Did
 
+-- what comes of the events with refreshes
 abbrev pub refresh_answers : List Turned
 refresh_answers =
     all_did (to_bary + (1 + refresh_count) + 1)
@@ -129,6 +140,7 @@ abbrev pub parked_events : List Event
 parked_events =
     goes to_bary ++ (refresh ++ (refused_events ++ (goes 32 ++ (refresh ++ (refresh ++ goes 5)))))
 
+-- what comes of them where the guest is parked
 abbrev pub parked_answers : List Turned
 parked_answers =
     all_did (to_bary + (1 + refresh_count) + 1)
@@ -140,6 +152,7 @@ abbrev pub found_events : List Event
 found_events =
     goes to_bary ++ (refresh ++ (goes 33 ++ (refresh ++ (refresh ++ (goes 1 ++ (refused_events ++ goes 3))))))
 
+-- what comes of them where an update finds what the guest has published
 abbrev pub found_answers : List Turned
 found_answers =
     all_did (to_bary + (1 + refresh_count) + 33 + 2 * (1 + refresh_count) + 2)
@@ -152,9 +165,11 @@ pub record Ending : Type 0 where
   pub units : ℕ
   pub steps : ℕ
 
+-- how a guest has ended
 abbrev pub ending_of : Raw → Ending
 ending_of r = record { log = r.base.log; stop = r.base.stop; units = r.base.units; steps = r.base.steps }
 
+-- how all have, after some events
 abbrev pub endings_after : World → List Event → List Ending
 endings_after w events = map ending_of (world_after w events).guests
 
@@ -163,9 +178,11 @@ pub record Kept : Type 0 where
   pub bary : Option ℕ
   pub tary : Option ℕ
 
+-- the table words that a check keeps between its loads
 abbrev pub kept_of : Raw → Kept
 kept_of r = record { bary = r.bary; tary = r.tary }
 
+-- those of all guests, after some events
 abbrev pub kept_after : World → List Event → List Kept
 kept_after w events = map kept_of (world_after w events).guests
 
@@ -187,6 +204,7 @@ abbrev pub phases_along : World → List Event → List Phase
 phases_along w [] = []
 phases_along w (event ∷ later) = phase_of (turn_of w event).world.tables ∷ phases_along (turn_of w event).world later
 
+-- so many phases of one kind, by their numbers
 abbrev pub counted : (phase : ℕ → Phase) → (from count : ℕ) → List Phase
 counted phase from zero = []
 counted phase from (suc count) = phase from ∷ counted phase (from + 1) count
@@ -204,9 +222,11 @@ pub record Force : Type 0 where
   pub epoch : ℕ
   pub policy : ℕ
 
+-- what is in force
 abbrev pub force_of : Tables → Force
 force_of t = record { epoch = epoch_in_force t; policy = policy_in_force t }
 
+-- what is in force after each event
 abbrev pub forces_along : World → List Event → List Force
 forces_along w [] = []
 forces_along w (event ∷ later) = force_of (turn_of w event).world.tables ∷ forces_along (turn_of w event).world later
@@ -225,5 +245,6 @@ HasTry = IsTryOf (call_world MAX_VERSIONS) (goes (to_bary + 4)) 0 0 148 (to_bary
 abbrev pub put_guest : Raw
 put_guest = record (raw_opened 0 (4 * (FIRST_BASE + 15)) []) { x31 = 148 }
 
+-- a guest that is put where no unit leads stands in none
 abbrev pub NobodyIsPutThere : Type 0
 NobodyIsPutThere = IsPlaced (call_world MAX_VERSIONS) put_guest → ⊥

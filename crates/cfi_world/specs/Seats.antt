@@ -20,6 +20,7 @@ use Rattle.cfi_model.specs.InForce.{tary_index}
 use Rattle.cfi_model.specs.World.{World, quiet_of, point_of}
 use Rattle.rv_guest.specs.Guest.{spent}
 
+-- a guest, how far it is in a service, and its QUIET word
 pub record Seat : Type 0 where
   pub guest : Raw
   pub point : Point
@@ -29,6 +30,7 @@ pub record Seat : Type 0 where
 abbrev pub seat_of : World → (guest : ℕ) → Raw → Seat
 seat_of w guest r = record { guest = r; point = point_of w guest; quiet = quiet_of w guest }
 
+-- a world with another seat of a guest
 abbrev pub with_seat : World → (guest : ℕ) → Seat → World
 with_seat w guest s = record w {
   quiets = slice_set w.quiets guest s.quiet;
@@ -81,6 +83,7 @@ seat_at Leaving t fuel s = record s { point = Found (epoch_in_force t) }
 seat_at (Found epoch) t fuel s =
     record { guest = rested fuel s.guest; point = Outside; quiet = Published epoch }
 
+-- a seat after one event of its guest
 abbrev pub seat_after : Tables → (fuel : ℕ) → Seat → Seat
 seat_after t fuel s = seat_at s.point t fuel s
 

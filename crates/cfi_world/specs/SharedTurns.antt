@@ -30,6 +30,7 @@ abbrev pub tested_in : Option Entry → (tested : ℕ) → ℕ
 tested_in None tested = 0
 tested_in (Some entry) tested = tested
 
+-- the past of what is shared
 abbrev pub past_in : Tables → Past
 past_in t = record {
   code_words = t.code_words;
@@ -39,11 +40,13 @@ past_in t = record {
   tested = tested_in t.asked t.tested;
 }
 
+-- what is shared in a world
 abbrev pub shared_in : World → Shared
 shared_in w = record { past = past_in w.tables; word = shared_word w }
 
 -- ---- a guest's turn
 
+-- the load of a place's word
 abbrev pub load_in : World → Place → SharedEvent
 load_in w place = shared.Load place (shared_word w place)
 
@@ -61,6 +64,7 @@ point_event w guest r Asking = None
 point_event w guest r Leaving = Some (load_in w places.Epoch)
 point_event w guest r (Found epoch) = Some (shared.Publish guest epoch)
 
+-- a guest's event on it; one that has stopped has none
 abbrev pub guest_event : World → (guest : ℕ) → Option Raw → Option SharedEvent
 guest_event w guest None = None
 guest_event w guest (Some r) =
@@ -75,20 +79,24 @@ release_event w guest (Some r) =
 
 -- ---- the updater's turn
 
+-- the tests are passed
 abbrev pub passed_event : Option Entry → Option SharedEvent
 passed_event None = None
 passed_event (Some entry) = Some (shared.Pass entry)
 
+-- a test refuses the update; only of a guest that has published one does
 abbrev pub refused_event : World → (guest : ℕ) → Quiet → Option SharedEvent
 refused_event w guest Unregistered = None
 refused_event w guest Parked = None
 refused_event w guest (Published quiet) = Some (shared.Refuse guest quiet (next_epoch w.tables))
 
+-- what a test of a guest's word is
 abbrev pub tested_event : World → (guest : ℕ) → Quiet → Option SharedEvent
 tested_event w guest quiet =
     if admits w.tables.versions (next_epoch w.tables) quiet
     then passed_event w.tables.asked else refused_event w guest quiet
 
+-- what an access of the updater is
 abbrev pub update_event : World → Phase → Option SharedEvent
 update_event w phases.Idle = None
 update_event w (phases.Testing guest) = tested_event w guest (quiet_of w guest)
@@ -99,6 +107,7 @@ update_event w (phases.Bary next) = Some (shared.Store (places.Bary next))
 
 -- ---- every turn; that an update is asked for, and that a guest is answered, changes nothing that is shared
 
+-- what a turn is
 abbrev pub event_in : World → Event → Option SharedEvent
 event_in w (events.Guest guest) = guest_event w guest (slice_get w.guests guest)
 event_in w (events.Begin image) = None
@@ -106,10 +115,12 @@ event_in w events.Update = update_event w (phase_of w.tables)
 event_in w (events.Answer guest answer) = None
 event_in w (events.Release guest) = release_event w guest (slice_get w.guests guest)
 
+-- the event happens, or nothing changes
 abbrev pub MakesIf : Option SharedEvent → (old new : Shared) → Type 0
 MakesIf None old new = AreSame old new
 MakesIf (Some event) old new = Makes event old new
 
+-- each turn is the event that is told of it, or changes nothing
 abbrev pub TurnsAreEvents : Type 0
 TurnsAreEvents =
     (w : World) → IsWorld w → (event : Event) →

@@ -22,6 +22,7 @@ use Rattle.cfi_world.specs.declared.event.Event.TheVariants as events
 use Rattle.cfi_world.specs.declared.event.Turned.{Turned}
 use Rattle.cfi_world.specs.declared.event.Turned.TheVariants.{Did, Asks, VersionsSpent, EpochsSpent, Nothing}
 
+-- what an event makes of a world, and its answer
 pub record Turn : Type 0 where
   pub world : World
   pub answer : Turned
@@ -30,6 +31,7 @@ pub record Turn : Type 0 where
 abbrev pub did : World → Turn
 did w = record { world = w; answer = Did }
 
+-- nothing happens
 abbrev pub nothing : World → Turn
 nothing w = record { world = w; answer = Nothing }
 
@@ -37,6 +39,7 @@ nothing w = record { world = w; answer = Nothing }
 abbrev pub turned_by : (guest : ℕ) → Seat → Turned
 turned_by guest s = if is_asking s.point then Asks guest (argument s.guest.base) else Did
 
+-- a guest has its event
 abbrev pub seated : World → (guest : ℕ) → Seat → Turn
 seated w guest s = record { world = with_seat w guest s; answer = turned_by guest s }
 
@@ -66,15 +69,18 @@ refused w guest (Published quiet) = record {
   answer = VersionsSpent guest quiet;
 }
 
+-- all tests are passed, and the update goes on
 abbrev pub passed_turn : World → Turn
 passed_turn w = did (record w { tables = passed_by w.tables.asked w.tables })
 
+-- a guest's word is tested
 abbrev pub tested_turn : World → (guest : ℕ) → Quiet → Turn
 tested_turn w guest quiet =
     if admits w.tables.versions (next_epoch w.tables) quiet
     then passed_turn w
     else refused w guest quiet
 
+-- a word is stored
 abbrev pub store_turn : World → Turn
 store_turn w = did (record w { tables = stored w.tables })
 
@@ -94,6 +100,7 @@ answered w guest reply r = record w {
   points = slice_set w.points guest Leaving;
 }
 
+-- an answer comes to a guest that asks; to another nothing comes
 abbrev pub answer_turn : World → (guest : ℕ) → Reply → Option Raw → Turn
 answer_turn w guest reply None = nothing w
 answer_turn w guest reply (Some r) =
@@ -107,6 +114,7 @@ is_registered Unregistered = false
 is_registered Parked = true
 is_registered (Published epoch) = true
 
+-- a guest that has stopped leaves while no update is under way
 abbrev pub release_turn : World → (guest : ℕ) → Option Raw → Turn
 release_turn w guest None = nothing w
 release_turn w guest (Some r) =

@@ -48,6 +48,7 @@ abbrev pub next_store : Tables → (from : ℕ) → ℕ
 next_store t from =
     from + agreeing (drop from (entry_at t (before t)).image.code) (drop from (entry_at t (newest t)).image.code)
 
+-- the tables at their next store, from this one on
 abbrev pub at_store : (from : ℕ) → Tables → Tables
 at_store from t = record t { stored = next_store t from }
 
@@ -58,6 +59,7 @@ quiet_passed entry t =
     then record t { tested = t.tested + 1 }
     else at_store 0 (record t { entries = t.entries ++ entry ∷ []; stored = 0; asked = None; tested = 0 })
 
+-- the tests are passed for what was asked for
 abbrev pub passed_by : Option Entry → Tables → Tables
 passed_by None t = t
 passed_by (Some entry) t = quiet_passed entry t

@@ -87,7 +87,8 @@ pub fn tries_find_epochs()
 
 /// Nothing comes in seven cases alone, and the world is then as it was.
 pub fn nothing_comes_in_seven_cases()
-    ensures same { (w : Whole) (event : Happening) → IsNothing w event → turn_of w event ≡ nothing w }
+    ensures same { (w : Whole) (event : Happening) → IsNothing w event
+        → turn_of w event ≡ nothing w }
     ensures only { (w : Whole) (event : Happening) → (turn_of w event).answer ≡ Nothing →
         IsNothing w event }
 {}

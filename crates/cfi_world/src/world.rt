@@ -47,7 +47,8 @@ impl Model for World {
 // The first guests are registered at an epoch.
 fn registered(count: usize, epoch: u32) -> [Quiet; GUESTS as usize]
     requires { count ≤ GUESTS }
-    ensures { result ≡ replicate count (Published epoch) ++ replicate (GUESTS - count) Unregistered }
+    ensures { result
+        ≡ replicate count (Published epoch) ++ replicate (GUESTS - count) Unregistered }
 {
     let mut quiets = [Quiet::Unregistered; GUESTS as usize];
     for k in 0..count {

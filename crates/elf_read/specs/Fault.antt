@@ -56,12 +56,15 @@ pub record HasPlaces (bytes : List ℕ) : Type 0 where
 abbrev pub kept_symbols : List ℕ → ℕ
 kept_symbols bytes = symbol_number bytes (symbol_count bytes)
 
+-- how many relocations are kept
 abbrev pub kept_relocs : List ℕ → ℕ
 kept_relocs bytes = total_of (kept_count bytes) (section_count bytes)
 
+-- how many words of text
 abbrev pub kept_words : List ℕ → ℕ
 kept_words bytes = text_end bytes (section_count bytes) / 4
 
+-- how many bytes of data
 abbrev pub kept_data : List ℕ → ℕ
 kept_data bytes = data_end bytes (section_count bytes)
 

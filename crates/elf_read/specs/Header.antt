@@ -13,18 +13,23 @@ is_elf32 bytes = starts_with nat_eq bytes (0x7f ∷ 0x45 ∷ 0x4c ∷ 0x46 ∷ 1
 abbrev pub type_of : List ℕ → ℕ
 type_of bytes = u16_at bytes 16
 
+-- the processor
 abbrev pub machine_of : List ℕ → ℕ
 machine_of bytes = u16_at bytes 18
 
+-- where the section headers begin
 abbrev pub table_offset : List ℕ → ℕ
 table_offset bytes = u32_at bytes 32
 
+-- how long a section header is
 abbrev pub entry_size : List ℕ → ℕ
 entry_size bytes = u16_at bytes 46
 
+-- how many sections there are
 abbrev pub section_count : List ℕ → ℕ
 section_count bytes = u16_at bytes 48
 
+-- the number of the section with their names
 abbrev pub names_number : List ℕ → ℕ
 names_number bytes = u16_at bytes 50
 

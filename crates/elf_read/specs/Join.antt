@@ -10,6 +10,7 @@ use Rattle.cfi_word.specs.declared.map.TheConstants.{DATA_ALIGNMENT}
 unfoldable pub text_of : List ℕ → (k : ℕ) → List ℕ
 text_of bytes k = if is_text bytes k then contents bytes k else []
 
+-- how much a section adds to the text
 unfoldable pub text_size : List ℕ → (k : ℕ) → ℕ
 text_size bytes k = if is_text bytes k then (section_at bytes k).size else 0
 
@@ -36,6 +37,7 @@ data_end bytes (suc k) =
     if is_data bytes k then aligned (data_end bytes k) (alignment_of bytes k) + (section_at bytes k).size
     else data_end bytes k
 
+-- where a data section begins in the data
 abbrev pub data_start : List ℕ → (k : ℕ) → ℕ
 data_start bytes k = aligned (data_end bytes k) (alignment_of bytes k)
 

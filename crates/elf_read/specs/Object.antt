@@ -38,6 +38,7 @@ kept_value bytes k =
     let symbol = symbol_at bytes k in
     if is_in_section bytes symbol then start_of bytes symbol.section + symbol.value else symbol.value
 
+-- a symbol that is kept
 unfoldable pub kept_symbol : List ℕ → (k : ℕ) → Symbol
 kept_symbol bytes k =
     record {
@@ -61,6 +62,7 @@ reference_of bytes s i =
     let symbol = symbol_index (rela_at bytes s i) in
     if symbol == 0 then None else Some (symbol_number bytes symbol)
 
+-- what the relocations of a section change
 unfoldable pub area_of : List ℕ → (s : ℕ) → Area
 area_of bytes s = if is_text bytes (section_at bytes s).info then areas.Text else areas.Data
 
@@ -80,6 +82,7 @@ kept_reloc bytes s i =
 unfoldable pub reloc_of : List ℕ → (s i : ℕ) → List Reloc
 reloc_of bytes s i = if is_dropped (kind_of (rela_at bytes s i)) then [] else kept_reloc bytes s i ∷ []
 
+-- what is kept of the relocations of a section
 unfoldable pub relocs_of : List ℕ → (s : ℕ) → List Reloc
 relocs_of bytes s = joined (reloc_of bytes s) (rela_count bytes s)
 

@@ -30,6 +30,7 @@ rela_at bytes s i = entry_in (contents bytes s) i
 abbrev pub symbol_index : Rela → ℕ
 symbol_index rela = rela.info / 256
 
+-- the kind of a relocation
 abbrev pub kind_of : Rela → ℕ
 kind_of rela = rela.info % 256
 
@@ -37,12 +38,15 @@ kind_of rela = rela.info % 256
 abbrev pub is_dropped : (kind : ℕ) → Bool
 is_dropped kind = kind == NONE || kind == ALIGN || kind == RELAX
 
+-- it changes data
 abbrev pub is_of_data : (kind : ℕ) → Bool
 is_of_data kind = kind == WORD || kind == ADD32 || kind == SUB32
 
+-- it changes the two instructions of a call
 abbrev pub is_of_pair : (kind : ℕ) → Bool
 is_of_pair kind = kind == CALL || kind == CALL_PLT
 
+-- it changes instructions
 unfoldable pub is_of_instruction : (kind : ℕ) → Bool
 is_of_instruction kind = is_of_pair kind || kind == BRANCH || kind == JAL || kind == PCREL_HI20 || kind == PCREL_LO12_I
     || kind == PCREL_LO12_S || kind == HI20 || kind == LO12_I || kind == LO12_S

@@ -35,6 +35,7 @@ section_names bytes = contents bytes (names_number bytes)
 unfoldable pub has_name : List ℕ → (k : ℕ) → (name : List ℕ) → Bool
 has_name bytes k name = starts_with nat_eq (drop (section_at bytes k).name (section_names bytes)) name
 
+-- a section has a flag
 abbrev pub has_flag : Section → (flag : ℕ) → Bool
 has_flag section flag = not (bit_and section.flags flag == 0)
 
@@ -49,6 +50,7 @@ is_loaded bytes k =
 unfoldable pub is_text : List ℕ → (k : ℕ) → Bool
 is_text bytes k = is_loaded bytes k && has_flag (section_at bytes k) EXECINSTR
 
+-- a section is kept data
 unfoldable pub is_data : List ℕ → (k : ℕ) → Bool
 is_data bytes k = is_loaded bytes k && not (has_flag (section_at bytes k) EXECINSTR)
 
@@ -58,9 +60,11 @@ is_record_section bytes name k =
     let section = section_at bytes k in
     section.kind == PROGBITS && not (has_flag section ALLOC) && has_name bytes k name
 
+-- a section has types
 abbrev pub is_types : List ℕ → (k : ℕ) → Bool
 is_types bytes k = is_record_section bytes CFI_TYPES.now k
 
+-- a section has records
 abbrev pub is_records : List ℕ → (k : ℕ) → Bool
 is_records bytes k = is_record_section bytes CFI_RECORDS.now k
 

@@ -16,6 +16,7 @@ use Rattle.cfi_word.specs.declared.limits.TheConstants.{MAX_NAME}
 unfoldable pub symbol_bytes : List ℕ → List ℕ
 symbol_bytes bytes = if has_symbols bytes then contents bytes (symbol_table bytes) else []
 
+-- the bytes with the names of symbols
 unfoldable pub symbol_names : List ℕ → List ℕ
 symbol_names bytes = if has_symbols bytes then contents bytes (section_at bytes (symbol_table bytes)).link else []
 
@@ -38,6 +39,7 @@ symbol_at bytes k =
 abbrev pub type_of : Entry → ℕ
 type_of symbol = symbol.info % 16
 
+-- the binding of a symbol
 abbrev pub binding_of : Entry → ℕ
 binding_of symbol = symbol.info / 16
 

@@ -95,7 +95,8 @@ fn defines_again<'a>(
     requires within { k < symbol_count table.now }
     requires named { is_well_named table.now k ≡ true }
     requires defined { (q : List ℕ) →
-        is_some (get_by (λ key. slice_cmp nat_cmp q key.now) defined.old) ≡ some_below (defines table.now q) k }
+        is_some (get_by (λ key. slice_cmp nat_cmp q key.now) defined.old)
+        ≡ some_below (defines table.now q) k }
     ensures same { IfOk result (λ again. again ≡ is_second_definition table.now k) }
     ensures ok { OnOk result ((q : List ℕ) →
         is_some (get_by (λ key. slice_cmp nat_cmp q key.now) defined.new)
@@ -120,7 +121,8 @@ fn is_bad_symbol<'a>(
 ) -> Result<bool, ElfFault>
     requires within { k < symbol_count table.now }
     requires defined { (q : List ℕ) →
-        is_some (get_by (λ key. slice_cmp nat_cmp q key.now) defined.old) ≡ some_below (defines table.now q) k }
+        is_some (get_by (λ key. slice_cmp nat_cmp q key.now) defined.old)
+        ≡ some_below (defines table.now q) k }
     ensures same { IfOk result (λ bad. bad ≡ is_bad_symbol table.now k) }
     ensures ok { IfOk result (λ bad. bad ≡ false → (q : List ℕ) →
         is_some (get_by (λ key. slice_cmp nat_cmp q key.now) defined.new)

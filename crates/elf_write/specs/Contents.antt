@@ -85,6 +85,7 @@ abbrev pub is_text_area : Area → Bool
 is_text_area areas.Text = true
 is_text_area areas.Data = false
 
+-- the area is that of data
 abbrev pub is_data_area : Area → Bool
 is_data_area areas.Text = false
 is_data_area areas.Data = true

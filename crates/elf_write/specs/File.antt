@@ -49,9 +49,11 @@ body_of object sections = flat_map (λ part. padded (contents_of object part)) s
 abbrev pub extra_of : Object → ℕ
 extra_of object = (if is_some object.types then 1 else 0) + (if is_some object.records then 1 else 0)
 
+-- the number of the symbol table's section
 abbrev pub symbols_number : Object → ℕ
 symbols_number object = 5 + extra_of object
 
+-- the number of the section with the names of symbols
 abbrev pub names_number : Object → ℕ
 names_number object = 6 + extra_of object
 
@@ -73,6 +75,7 @@ info_of_part object _ = 0
 abbrev pub name_place : Object → (k : ℕ) → ℕ
 name_place object k = length (flat_map section_name (take k (sections_of object)))
 
+-- where a section begins
 unfoldable pub section_place : Object → (k : ℕ) → ℕ
 section_place object k = if k == 0 then 0 else HEADER_SIZE + length (body_of object (take k (sections_of object)))
 

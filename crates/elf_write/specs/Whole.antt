@@ -26,6 +26,7 @@ abbrev pub HasName : Binding → (name : List ℕ) → Type 0
 HasName bindings.Local name = ⊤
 HasName _ name = 0 < length name
 
+-- a local symbol is defined
 abbrev pub HasPlace : Binding → Place → Type 0
 HasPlace bindings.Local place = is_defined place ≡ true
 HasPlace _ place = ⊤

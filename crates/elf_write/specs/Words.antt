@@ -7,5 +7,6 @@ use Rattle.std.specs.Int.{w16, w32, to_le_bytes}
 abbrev pub halves : List ℕ → List ℕ
 halves numbers = flat_map (to_le_bytes w16) numbers
 
+-- numbers as words
 abbrev pub words : List ℕ → List ℕ
 words numbers = flat_map (to_le_bytes w32) numbers

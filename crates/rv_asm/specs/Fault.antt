@@ -43,6 +43,7 @@ is_kind statements.KindReturn = true
 is_kind (statements.KindSwitch names) = true
 is_kind other = false
 
+-- the statement is an indirect jump
 abbrev pub is_jump : Statement → Bool
 is_jump (statements.Jalr rd rs1 imm) = true
 is_jump statements.Ret = true
@@ -64,6 +65,7 @@ abbrev pub is_bare : (end : ℕ) → Option Function → Bool
 is_bare end None = true
 is_bare end (Some function) = function.offset == end
 
+-- the datum is a name
 abbrev pub is_name : Datum → Bool
 is_name (data_words.Number number) = false
 is_name (data_words.Name name) = true
@@ -76,6 +78,7 @@ pub record Found : Type 0 where
   pub kind : Option Kind
   pub jump : Bool
 
+-- what is found where a line stands: how much stands before it, and what it belongs to
 abbrev pub found_at : File → (lines : List Line) → Placed → Found
 found_at file lines at = record {
   spot = spot_after at.before;
@@ -109,10 +112,12 @@ is_misplaced file found instruction = is_data found.spot.area
 abbrev pub in_text : (table : List Entry) → (name : List ℕ) → Bool
 in_text table name = is_some (text_value table name)
 
+-- a reference to the upper part of a pair names nothing in the text
 abbrev pub lacks_partner : (table : List Entry) → Option (ℕ × List ℕ) → Bool
 lacks_partner table None = false
 lacks_partner table (Some reference) = is_partner reference.0 && not (in_text table reference.1)
 
+-- the statement asks for a name that is not there
 abbrev pub is_unknown : (table : List Entry) → Statement → Bool
 is_unknown table (statements.Globl name) = is_none (definition_in table name)
 is_unknown table (statements.KindSwitch names) = not (list_all (in_text table) names)
@@ -123,19 +128,23 @@ abbrev pub is_elsewhere : (number : ℕ) → Option Definition → Bool
 is_elsewhere number None = false
 is_elsewhere number (Some definition) = not (definition.line == number)
 
+-- the name is defined on another line
 abbrev pub is_again : (table : List Entry) → (number : ℕ) → Option (List ℕ) → Bool
 is_again table number None = false
 is_again table number (Some name) = is_elsewhere number (definition_in table name)
 
+-- it is the line's label
 abbrev pub is_label : Option (List ℕ) → (name : List ℕ) → Bool
 is_label None name = false
 is_label (Some label) name = bytes_eq label name
 
+-- the statement begins a function whose name is defined already
 abbrev pub begins_again : (table : List Entry) → (number : ℕ) → (label : Option (List ℕ)) → Statement → Bool
 begins_again table number label (statements.Func name node taken) =
     is_elsewhere number (definition_in table name) || is_label label name
 begins_again table number label statement = false
 
+-- the line defines a name again
 abbrev pub is_twice : (table : List Entry) → (number : ℕ) → (label : Option (List ℕ)) → Statement → Bool
 is_twice table number label statement = is_again table number label || begins_again table number label statement
 
@@ -148,6 +157,7 @@ pub record Totals : Type 0 where
   pub branches : ℕ
   pub names : ℕ
 
+-- how many relocations, nodes, functions, branches and names there are up to the line
 abbrev pub totals_at : File → Placed → Totals
 totals_at file at = record {
   relocs = length (relocs_by file areas.Text at.before) + length (relocs_by file areas.Data at.before);
@@ -167,6 +177,7 @@ words_fit spot totals count None = false
 words_fit spot totals count (Some words) =
     nat_le (spot.text_end + size_of words) (4 * MAX_WORDS) && relocs_fit totals count
 
+-- what a statement adds to the text is within the limits
 abbrev pub code_fits : File → Spot → Totals → Statement → Bool
 code_fits file spot totals statement =
     words_fit spot totals (length (relocs_of file.names spot statement))
@@ -180,11 +191,13 @@ jump_fits records totals = not records || nat_lt totals.branches MAX_BRANCHES
 abbrev pub data_fits : Spot → (count : ℕ) → Bool
 data_fits spot count = nat_le (spot.data_end + count) MAX_DATA
 
+-- a word is, in its area
 abbrev pub word_fits : (own : Area) → File → Spot → Totals → Datum → Bool
 word_fits areas.Text file spot totals datum = code_fits file spot totals (statements.Word datum)
 word_fits areas.Data file spot totals datum =
     data_fits spot 4 && relocs_fit totals (length (relocs_of file.names spot (statements.Word datum)))
 
+-- so many zero bytes are
 abbrev pub zeros_fit : Spot → ℤ → Bool
 zeros_fit spot (pos n) = data_fits spot n
 zeros_fit spot (negsuc n) = false
@@ -222,11 +235,13 @@ said_fault file found totals number label statement =
     else (if nat_lt MAX_SYMBOLS totals.names then Some (Range number)
     else (if statement_fits file found.spot totals statement then None else Some (Range number)))))
 
+-- the fault of a line; one that is no statement has bad syntax
 abbrev pub line_fault : File → Found → Totals → (number : ℕ) → (label : Option (List ℕ)) → Option Statement →
     Option AsmFault
 line_fault file found totals number label None = Some (Syntax number)
 line_fault file found totals number label (Some statement) = said_fault file found totals number label statement
 
+-- the fault of a line where it stands
 abbrev pub fault_at : File → (lines : List Line) → Placed → Option AsmFault
 fault_at file lines at =
     line_fault file (found_at file lines at) (totals_at file at)

@@ -42,13 +42,16 @@ abbrev pub bytes_of : Option Words → List ℕ
 bytes_of None = []
 bytes_of (Some words) = words_bytes words
 
+-- the bytes that a statement in text adds to it
 abbrev pub text_in : (own : Area) → File → Spot → Option Statement → List ℕ
 text_in areas.Text file spot (Some statement) = bytes_of (words_of file.names spot.text_end statement)
 text_in own file spot statement = []
 
+-- what a line adds to the text where it stands
 abbrev pub text_at : File → Placed → List ℕ
 text_at file at = text_in (area_after at.before) file (spot_after at.before) at.line.statement
 
+-- the text of all lines
 abbrev pub text_of : File → (lines : List Line) → List ℕ
 text_of file lines = joined (text_at file) lines
 
@@ -57,14 +60,17 @@ abbrev pub datum_word : Datum → ℕ
 datum_word (data_words.Number number) = low_word number
 datum_word (data_words.Name name) = 0
 
+-- the bytes that a statement in data adds to them
 abbrev pub data_in : (own : Area) → Option Statement → List ℕ
 data_in areas.Data (Some (statements.Word datum)) = word_bytes (datum_word datum)
 data_in areas.Data (Some (statements.Zero (pos n))) = replicate n 0
 data_in own statement = []
 
+-- what a line adds to the data where it stands
 abbrev pub data_at : Placed → List ℕ
 data_at at = data_in (area_after at.before) at.line.statement
 
+-- the data of all lines
 abbrev pub data_of : (lines : List Line) → List ℕ
 data_of lines = joined data_at lines
 
@@ -74,10 +80,12 @@ relocs_in areas.Text areas.Text file spot (Some statement) = relocs_of file.name
 relocs_in areas.Data areas.Data file spot (Some statement) = relocs_of file.names spot statement
 relocs_in area own file spot statement = []
 
+-- the relocations of an area that a line adds where it stands
 abbrev pub relocs_at : Area → File → Placed → List Reloc
 relocs_at area file at =
     relocs_in area (area_after at.before) file (spot_after at.before) at.line.statement
 
+-- those of all lines
 abbrev pub relocs_by : File → Area → (lines : List Line) → List Reloc
 relocs_by file area lines = joined (relocs_at area file) lines
 
@@ -86,6 +94,7 @@ abbrev pub nodes_in : Option Statement → List Node
 nodes_in (Some (statements.Node kind fields)) = listed (node_of kind fields)
 nodes_in other = []
 
+-- the nodes of all lines
 abbrev pub nodes_of : (lines : List Line) → List Node
 nodes_of lines = joined (λ at. nodes_in at.line.statement) lines
 
@@ -93,12 +102,14 @@ nodes_of lines = joined (λ at. nodes_in at.line.statement) lines
 abbrev pub begun : (offset : ℕ) → (name : List ℕ) → (taken : Bool) → (ty : ℕ) → Function
 begun offset name taken ty = record { offset = offset; length = 0; ty = ty; taken = taken; name = name }
 
+-- what a statement makes of the function that is open: it begins one, ends it, or leaves it
 abbrev pub opened : (kinds : List NodeKind) → (end : ℕ) → Option Statement → Option (Option Function)
 opened kinds end (Some (statements.Func name node taken)) =
     Some (option_map (begun end name taken) (callable_in kinds node))
 opened kinds end (Some statements.EndFunc) = Some None
 opened kinds end other = None
 
+-- what a line makes of it where it stands
 abbrev pub opened_at : (kinds : List NodeKind) → Placed → Option (Option Function)
 opened_at kinds at = opened kinds (end_after areas.Text at.before) at.line.statement
 
@@ -110,14 +121,17 @@ open_after kinds before = unwrap_or (last_or None (filter_map (opened_at kinds) 
 abbrev pub ended : (end : ℕ) → Function → Function
 ended end function = record function { length = end - function.offset }
 
+-- the function that a statement ends
 abbrev pub functions_in : (end : ℕ) → Option Function → Option Statement → List Function
 functions_in end function (Some statements.EndFunc) = listed (option_map (ended end) function)
 functions_in end function other = []
 
+-- the function that a line ends where it stands
 abbrev pub functions_at : (kinds : List NodeKind) → Placed → List Function
 functions_at kinds at =
     functions_in (end_after areas.Text at.before) (open_after kinds at.before) at.line.statement
 
+-- the functions of all lines
 abbrev pub functions_of : (kinds : List NodeKind) → (lines : List Line) → List Function
 functions_of kinds lines = joined (functions_at kinds) lines
 
@@ -125,6 +139,7 @@ functions_of kinds lines = joined (functions_at kinds) lines
 abbrev pub value_in : (table : List Entry) → (name : List ℕ) → ℕ
 value_in table name = unwrap_or (text_value table name) 0
 
+-- what some names stand for
 abbrev pub values_in : (table : List Entry) → (names : List (List ℕ)) → List ℕ
 values_in table names = map (value_in table) names
 
@@ -148,9 +163,11 @@ branches_in kind (Some (statements.Jalr rd rs1 imm)) = unwrap_or kind branches.R
 branches_in kind (Some statements.Ret) = unwrap_or kind branches.Return ∷ []
 branches_in kind other = []
 
+-- the branch that a line adds where it stands
 abbrev pub branches_at : File → Placed → List Kind
 branches_at file at = branches_in (kind_after file at.before) at.line.statement
 
+-- the branches of all lines
 abbrev pub branches_of : File → (lines : List Line) → List Kind
 branches_of file lines = joined (branches_at file) lines
 

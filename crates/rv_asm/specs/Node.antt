@@ -45,11 +45,13 @@ abbrev pub is_word : ℤ → Bool
 is_word (pos n) = nat_lt n (2 ^ 32)
 is_word (negsuc n) = false
 
+-- the fields of an integer type that are there fit
 abbrev pub is_integer : (words : List ℕ) → Bool
 is_integer [] = true
 is_integer (bits ∷ []) = true
 is_integer (bits ∷ sign ∷ words) = field_fits INT 0 bits && field_fits INT 1 sign
 
+-- the fields of a node fit its kind
 abbrev pub fits : NodeKind → (words : List ℕ) → Bool
 fits kinds.Int words = is_integer words
 fits kind words = true
@@ -58,6 +60,7 @@ fits kind words = true
 abbrev pub node_by : NodeKind → (words : List ℕ) → Option Node
 node_by kind words = if fits kind words then Some (make_node (number_of kind) words) else None
 
+-- the node of some fields, if they fit
 abbrev pub node_of : NodeKind → (fields : List ℤ) → Option Node
 node_of kind fields =
     if nat_le (length fields) MAX_FIELDS

@@ -27,6 +27,7 @@ placed_behind before [] = []
 placed_behind before (line ∷ lines) =
     record { before = before; line = line } ∷ placed_behind (before ++ line ∷ []) lines
 
+-- each line, with those before it
 abbrev pub placed : (lines : List Line) → List Placed
 placed lines = placed_behind [] lines
 
@@ -50,6 +51,7 @@ size_in areas.Text areas.Text (Some statement) = text_size statement
 size_in areas.Data areas.Data (Some statement) = data_size statement
 size_in area own statement = 0
 
+-- how many bytes a line adds to an area where it stands
 abbrev pub size_at : Area → Placed → ℕ
 size_at area at = size_in area (area_after at.before) at.line.statement
 
@@ -62,6 +64,7 @@ abbrev pub is_pair : Option Statement → Bool
 is_pair (Some (statements.La rd name)) = true
 is_pair other = false
 
+-- how many pairs the lines have
 abbrev pub pairs_after : (before : List Line) → ℕ
 pairs_after before = count_by (λ line. is_pair line.statement) before
 

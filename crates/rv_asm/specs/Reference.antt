@@ -29,10 +29,12 @@ abbrev pub target_reference : (kind : ℕ) → Target → Option (ℕ × List �
 target_reference kind (targets.Name name) = Some (kind, name)
 target_reference kind (targets.Offset number) = None
 
+-- the name to which a datum refers
 abbrev pub datum_reference : Datum → Option (ℕ × List ℕ)
 datum_reference (data_words.Number number) = None
 datum_reference (data_words.Name name) = Some (relocs.WORD, name)
 
+-- that to which a statement refers, with its relocation's kind
 abbrev pub reference_of : Statement → Option (ℕ × List ℕ)
 reference_of (statements.OpImm op rd rs1 imm) = low_reference relocs.LO12_I relocs.PCREL_LO12_I imm
 reference_of (statements.Load kind rd rs1 imm) = low_reference relocs.LO12_I relocs.PCREL_LO12_I imm

@@ -37,6 +37,7 @@ both None (Some second) = second ∷ []
 both (Some first) None = first ∷ []
 both (Some first) (Some second) = first ∷ second ∷ []
 
+-- the relocations of a statement where it stands: one of its reference, and the second of a pair
 abbrev pub relocs_of : (table : List Entry) → Spot → Statement → List Reloc
 relocs_of table spot statement =
     both (first_reloc table spot (reference_of statement)) (second_reloc table spot statement)

@@ -52,6 +52,7 @@ abbrev pub end_in : Spot → (area : Area) → ℕ
 end_in spot areas.Text = spot.text_end
 end_in spot areas.Data = spot.data_end
 
+-- how much stands in the area of a spot
 abbrev pub end_of : Spot → ℕ
 end_of spot = end_in spot spot.area
 

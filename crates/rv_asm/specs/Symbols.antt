@@ -24,6 +24,7 @@ definition_at number spot = record { line = number; area = spot.area; value = en
 abbrev pub defining : (name : List ℕ) → Definition → Entry
 defining name definition = record { name = name; definition = Some definition; exported = false }
 
+-- what exporting a name says of it
 abbrev pub exporting : (name : List ℕ) → Entry
 exporting name = record { name = name; definition = None; exported = true }
 
@@ -32,10 +33,12 @@ abbrev pub label_says : Definition → Option (List ℕ) → List Entry
 label_says definition None = []
 label_says definition (Some name) = defining name definition ∷ []
 
+-- what a reference says of its name
 abbrev pub reference_says : Option (ℕ × List ℕ) → List Entry
 reference_says None = []
 reference_says (Some reference) = fresh reference.1 ∷ []
 
+-- what a statement says of names
 abbrev pub statement_says : Spot → Definition → Statement → List Entry
 statement_says spot definition (statements.La rd name) = defining (pair_label spot.pairs) definition ∷ fresh name ∷ []
 statement_says spot definition (statements.Globl name) = exporting name ∷ []
@@ -43,17 +46,21 @@ statement_says spot definition (statements.Func name node taken) = defining name
 statement_says spot definition (statements.KindSwitch names) = map fresh names
 statement_says spot definition statement = reference_says (reference_of statement)
 
+-- the same of what stands on a line
 abbrev pub said_says : Spot → Definition → Option Statement → List Entry
 said_says spot definition None = []
 said_says spot definition (Some statement) = statement_says spot definition statement
 
+-- what a line of this number says of names
 abbrev pub line_says : (number : ℕ) → Spot → Line → List Entry
 line_says number spot line =
     label_says (definition_at number spot) line.label ++ said_says spot (definition_at number spot) line.statement
 
+-- what a line says where it stands
 abbrev pub says_at : Placed → List Entry
 says_at at = line_says (length at.before + 1) (spot_after at.before) at.line
 
+-- what all lines say, in order
 abbrev pub said_in : (lines : List Line) → List Entry
 said_in lines = flat_map says_at (placed lines)
 
@@ -70,6 +77,7 @@ entry_of said name = let own = filter (is_named name) said in record {
   exported = list_any (λ entry. entry.exported) own;
 }
 
+-- the names that are said, in the order in which they first occur
 abbrev pub table_of : (said : List Entry) → List Entry
 table_of said = map (entry_of said) (distinct (map (λ entry. entry.name) said))
 
@@ -82,6 +90,7 @@ abbrev pub node_kind : Option Statement → Option NodeKind
 node_kind (Some (statements.Node kind fields)) = Some kind
 node_kind other = None
 
+-- the kinds of the nodes of all lines
 abbrev pub kinds_in : (lines : List Line) → List NodeKind
 kinds_in lines = filter_map (λ line. node_kind line.statement) lines
 

@@ -30,6 +30,7 @@ use Rattle.rv_asm.specs.declared.words.Words.TheVariants.{One, Two}
 abbrev pub word_bytes : (word : ℕ) → List ℕ
 word_bytes word = to_le_bytes w32 word
 
+-- the bytes of one word or two
 abbrev pub words_bytes : Words → List ℕ
 words_bytes (One first) = word_bytes first
 words_bytes (Two first second) = word_bytes first ++ word_bytes second
@@ -48,13 +49,16 @@ low_word (negsuc n) = 2 ^ 32 - 1 - n % 2 ^ 32
 abbrev pub signed_field : (half : ℕ) → ℤ → Option ℤ
 signed_field half number = if is_signed half number then Some number else None
 
+-- the number is even
 abbrev pub is_even : ℤ → Bool
 is_even (pos n) = n % 2 == 0
 is_even (negsuc n) = n % 2 == 1
 
+-- an offset that its field can have
 abbrev pub offset_field : (half : ℕ) → ℤ → Option ℤ
 offset_field half number = if is_signed half number && is_even number then Some number else None
 
+-- a number from 0 on that its field can have
 abbrev pub unsigned_field : (most : ℕ) → ℤ → Option ℕ
 unsigned_field most (pos n) = if nat_lt n most then Some n else None
 unsigned_field most (negsuc n) = None
@@ -65,12 +69,14 @@ low_field (lows.Number number) = signed_field (2 ^ 11) number
 low_field (lows.Lo name) = Some (pos 0)
 low_field (lows.PcrelLo name) = Some (pos 0)
 
+-- a distance to shift by; what names a symbol is filled in later
 abbrev pub shift_field : Low → Option ℤ
 shift_field (lows.Number (pos n)) = if nat_lt n 32 then Some (pos n) else None
 shift_field (lows.Number (negsuc n)) = None
 shift_field (lows.Lo name) = Some (pos 0)
 shift_field (lows.PcrelLo name) = Some (pos 0)
 
+-- the immediate of an operation, which shifts by a distance or takes a number
 abbrev pub imm_field : ImmOp → Low → Option ℤ
 imm_field op imm = if is_some (imm_funct7 op) then shift_field imm else low_field imm
 
@@ -106,6 +112,7 @@ abbrev pub leap : (at : ℕ) → Option ℕ → ℤ
 leap at None = pos 0
 leap at (Some value) = distance at value
 
+-- how far away a target is
 abbrev pub offset_of : (table : List Entry) → (at : ℕ) → Target → ℤ
 offset_of table at (targets.Offset number) = number
 offset_of table at (targets.Name name) = leap at (text_value table name)

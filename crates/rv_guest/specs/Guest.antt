@@ -66,6 +66,7 @@ WaitsElse None = ⊥
 abbrev pub is_spent : (fuel : ℕ) → Raw → Bool
 is_spent fuel r = is_none r.base.stop && (r.base.steps == fuel)
 
+-- a guest that has stopped where its fuel is spent
 abbrev pub spent : (fuel : ℕ) → Raw → Raw
 spent fuel r =
     record r { base = record r.base { stop = if is_spent fuel r then Some Fuel else r.base.stop } }

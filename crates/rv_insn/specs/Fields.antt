@@ -45,6 +45,7 @@ imm_j_at word = signed (2 ^ 20)
 abbrev pub high_of : ℕ → ℕ
 high_of number = (number + 2 ^ 11) % 2 ^ 32 / 2 ^ 12
 
+-- the lower twelve bits of a number, with a sign
 abbrev pub low_of : ℕ → ℤ
 low_of number = signed (2 ^ 11) (number % 2 ^ 12)
 

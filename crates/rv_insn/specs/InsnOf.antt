@@ -20,15 +20,19 @@ use Rattle.rv_insn.specs.Fields.{fields_at, imm_i_at, imm_s_at, imm_b_at, imm_u_
 abbrev pub conds : List Cond
 conds = Beq ∷ Bne ∷ Blt ∷ Bge ∷ Bltu ∷ Bgeu ∷ []
 
+-- the loads, in the table's order
 abbrev pub load_kinds : List LoadKind
 load_kinds = Lb ∷ Lh ∷ Lw ∷ Lbu ∷ Lhu ∷ []
 
+-- the stores, in the table's order
 abbrev pub store_kinds : List StoreKind
 store_kinds = Sb ∷ Sh ∷ Sw ∷ []
 
+-- the operations on an immediate, in the table's order
 abbrev pub imm_ops : List ImmOp
 imm_ops = Addi ∷ Slli ∷ Slti ∷ Sltiu ∷ Xori ∷ Srli ∷ Srai ∷ Ori ∷ Andi ∷ []
 
+-- the operations on registers, in the table's order
 abbrev pub ops : List Op
 ops = Add ∷ Sub ∷ Sll ∷ Slt ∷ Sltu ∷ Xor ∷ Srl ∷ Sra ∷ Or ∷ And ∷ []
 
@@ -69,25 +73,32 @@ imm_value (Some funct7) imm rs2 = pos rs2
 abbrev pub jalr_row : (funct3 rd rs1 : ℕ) → ℤ → Option Insn
 jalr_row funct3 rd rs1 imm = if funct3 == 0 then Some (insns.Jalr rd rs1 imm) else None
 
+-- the branch of a row
 abbrev pub branch_row : (funct3 rs1 rs2 : ℕ) → ℤ → Option Insn
 branch_row funct3 rs1 rs2 off = option_map (λ cond. insns.Branch cond rs1 rs2 off) (cond_at funct3)
 
+-- the load of a row
 abbrev pub load_row : (funct3 rd rs1 : ℕ) → ℤ → Option Insn
 load_row funct3 rd rs1 imm = option_map (λ kind. insns.Load kind rd rs1 imm) (load_at funct3)
 
+-- the store of a row
 abbrev pub store_row : (funct3 rs1 rs2 : ℕ) → ℤ → Option Insn
 store_row funct3 rs1 rs2 imm = option_map (λ kind. insns.Store kind rs1 rs2 imm) (store_at funct3)
 
+-- the operation on an immediate of a row
 abbrev pub imm_row : (funct3 funct7 rd rs1 rs2 : ℕ) → ℤ → Option Insn
 imm_row funct3 funct7 rd rs1 rs2 imm =
     option_map (λ op. insns.OpImm op rd rs1 (imm_value (imm_funct7 op) imm rs2)) (imm_op_at funct3 funct7)
 
+-- the operation on registers of a row
 abbrev pub op_row : (funct3 funct7 rd rs1 rs2 : ℕ) → Option Insn
 op_row funct3 funct7 rd rs1 rs2 = option_map (λ op. insns.Op op rd rs1 rs2) (op_at funct3 funct7)
 
+-- a fence, whose fields are what its word has beside the opcode
 abbrev pub fence_row : (funct3 word : ℕ) → Option Insn
 fence_row funct3 word = if funct3 == 0 then Some (insns.Fence (word - opcodes.FENCE)) else None
 
+-- ECALL or EBREAK
 abbrev pub system_row : (word : ℕ) → Option Insn
 system_row word =
     if word == opcodes.ECALL then Some insns.Ecall else (if word == opcodes.EBREAK then Some insns.Ebreak else None)

@@ -18,15 +18,19 @@ use Rattle.rv_line.specs.declared.statement.NodeKind.TheVariants as nodes
 abbrev pub op_called : (word : List ℕ) → Option Op
 op_called word = find (λ op. bytes_eq (op_name op) word) ops
 
+-- the operation on an immediate of this name
 abbrev pub imm_op_called : (word : List ℕ) → Option ImmOp
 imm_op_called word = find (λ op. bytes_eq (imm_op_name op) word) imm_ops
 
+-- the load of this name
 abbrev pub load_called : (word : List ℕ) → Option LoadKind
 load_called word = find (λ kind. bytes_eq (load_name kind) word) load_kinds
 
+-- the store of this name
 abbrev pub store_called : (word : List ℕ) → Option StoreKind
 store_called word = find (λ kind. bytes_eq (store_name kind) word) store_kinds
 
+-- the condition of the branch of this name
 abbrev pub cond_called : (word : List ℕ) → Option Cond
 cond_called word = find (λ cond. bytes_eq (cond_name cond) word) conds
 
@@ -41,6 +45,7 @@ mnemonic_called word =
     else (if bytes_eq word (codes "ecall") then Some keywords.Ecall
     else (if bytes_eq word (codes "ebreak") then Some keywords.Ebreak else None))))))
 
+-- the short forms and the statements that are no instructions, by their words
 unfoldable pub short_called : (word : List ℕ) → Option Keyword
 short_called word =
     if bytes_eq word (codes "nop") then Some keywords.Nop

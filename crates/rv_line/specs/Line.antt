@@ -19,6 +19,7 @@ abbrev pub words_form : (word rest : List ℕ) → Option Statement
 words_form [] rest = Some Blank
 words_form (byte ∷ bytes) rest = form_of (byte ∷ bytes) rest
 
+-- the statement of a text, by its first word
 abbrev pub statement_in : (text : List ℕ) → Option Statement
 statement_in text = words_form (first_word text) (after_word text)
 
@@ -29,6 +30,7 @@ is_of_records (Some keywords.Func) = true
 is_of_records (Some keywords.Kind) = true
 is_of_records other = false
 
+-- the word is one that asks for tables of types and functions
 abbrev pub begins_records : (word : List ℕ) → Bool
 begins_records word = is_of_records (keyword_called word)
 
@@ -41,10 +43,12 @@ line_of label text =
 abbrev pub faulty_line : (text : List ℕ) → Line
 faulty_line text = record { label = None; statement = None; records = begins_records (first_word text) }
 
+-- a line whose label is what stands before the colon, if that is a name
 abbrev pub labelled_in : (label : Option (List ℕ)) → (back text : List ℕ) → Line
 labelled_in None back text = faulty_line text
 labelled_in (Some name) back text = line_of (Some name) back
 
+-- a line, by what stands before and behind its colon, if it has one
 abbrev pub parts_in : Option (List ℕ × List ℕ) → (text : List ℕ) → Line
 parts_in None text = line_of None text
 parts_in (Some parts) text = labelled_in (name_in (unblanked parts.0)) parts.1 text

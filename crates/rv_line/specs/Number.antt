@@ -15,6 +15,7 @@ abbrev pub with_digit : (value : ℕ) → Option ℕ → Option ℕ
 with_digit value None = None
 with_digit value (Some digit) = Some (16 * value + digit)
 
+-- a number with further hexadecimal digits
 abbrev pub with_digits : Option ℕ → (digits : List ℕ) → Option ℕ
 with_digits None digits = None
 with_digits (Some value) [] = Some value

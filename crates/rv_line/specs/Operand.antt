@@ -23,6 +23,7 @@ only_word [] = None
 only_word (word ∷ []) = Some word
 only_word (word ∷ other ∷ words) = None
 
+-- the one word of a text
 abbrev pub word_in : (text : List ℕ) → Option (List ℕ)
 word_in text = only_word (words_in text)
 
@@ -44,6 +45,7 @@ two_in text = do
   second ← word_in parts.1
   Some (first, second)
 
+-- three words between two commas
 unfoldable pub three_in : (text : List ℕ) → Option (List ℕ × List ℕ × List ℕ)
 three_in text = do
   parts ← cut 44 text
@@ -62,6 +64,7 @@ low_by kind name =
     if bytes_eq kind (codes "%lo") then Some (lows.Lo name)
     else (if bytes_eq kind (codes "%pcrel_lo") then Some (lows.PcrelLo name) else None)
 
+-- the lower part of a name, as `%lo(NAME)` or `%pcrel_lo(NAME)` without its end
 unfoldable pub low_reference_in : (front : List ℕ) → Option Low
 low_reference_in front = do
   parts ← cut 40 front
@@ -74,6 +77,7 @@ high_by kind name =
     if bytes_eq kind (codes "%hi") then Some (highs.Hi name)
     else (if bytes_eq kind (codes "%pcrel_hi") then Some (highs.PcrelHi name) else None)
 
+-- the upper part of a name, as `%hi(NAME)` or `%pcrel_hi(NAME)` without its end
 unfoldable pub high_reference_in : (front : List ℕ) → Option High
 high_reference_in front = do
   parts ← cut 40 front
@@ -91,6 +95,7 @@ abbrev pub low_or : Option ℤ → (word : List ℕ) → Option Low
 low_or (Some number) word = Some (lows.Number number)
 low_or None word = option_and_then low_reference_in (closed_in word)
 
+-- a lower immediate: a number, or the lower part of a name
 unfoldable pub low_in : (word : List ℕ) → Option Low
 low_in word = low_or (integer_in word) word
 
@@ -99,6 +104,7 @@ abbrev pub high_or : Option ℤ → (word : List ℕ) → Option High
 high_or (Some number) word = Some (highs.Number number)
 high_or None word = option_and_then high_reference_in (closed_in word)
 
+-- an upper immediate: a number, or the upper part of a name
 unfoldable pub high_in : (word : List ℕ) → Option High
 high_in word = high_or (integer_in word) word
 
@@ -117,12 +123,14 @@ number_place_in front = do
   base ← register_in parts.1
   Some (lows.Number number, base)
 
+-- the lower part of a name and the register behind it
 unfoldable pub reference_place_in : (front back : List ℕ) → Option (Low × ℕ)
 reference_place_in front back = do
   low ← low_reference_in front
   base ← base_in back
   Some (low, base)
 
+-- an offset and the register in brackets behind it
 unfoldable pub place_in : (word : List ℕ) → Option (Low × ℕ)
 place_in word = do
   parts ← cut 41 word
@@ -142,5 +150,6 @@ abbrev pub datum_or : Option ℤ → (word : List ℕ) → Option Datum
 datum_or (Some number) word = Some (data_words.Number number)
 datum_or None word = option_map data_words.Name (name_in word)
 
+-- a datum: a number, or a name
 unfoldable pub datum_in : (word : List ℕ) → Option Datum
 datum_in word = datum_or (integer_in word) word

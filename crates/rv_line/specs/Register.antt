@@ -18,6 +18,7 @@ named_register word =
 abbrev pub below : (bound number register : ℕ) → Option ℕ → Option ℕ
 below bound number register other = if nat_lt number bound then Some register else other
 
+-- the register of a letter and a number: x, a, s or t
 abbrev pub numbered_register : (letter number : ℕ) → Option ℕ
 numbered_register letter number =
     if letter == 120 then below 32 number number None

@@ -41,6 +41,7 @@ is_number (lows.Number number) = true
 is_number (lows.Lo name) = false
 is_number (lows.PcrelLo name) = false
 
+-- an operation takes the immediate: one that shifts takes numbers alone
 abbrev pub takes : ImmOp → Low → Bool
 takes op imm = if is_some (imm_funct7 op) then is_number imm else true
 
@@ -96,6 +97,7 @@ lui_by rd (highs.Number number) = Some (statements.Lui rd (highs.Number number))
 lui_by rd (highs.Hi name) = Some (statements.Lui rd (highs.Hi name))
 lui_by rd (highs.PcrelHi name) = None
 
+-- `lui` with a register and an upper immediate
 abbrev pub lui_form : (rest : List ℕ) → Option Statement
 lui_form rest = option_and_then (λ p. lui_by p.0 p.1) (register_and_high rest)
 
@@ -116,6 +118,7 @@ abbrev pub alone : Statement → (words : List (List ℕ)) → Option Statement
 alone statement [] = Some statement
 alone statement (word ∷ words) = None
 
+-- a statement without operands
 abbrev pub bare_form : Statement → (rest : List ℕ) → Option Statement
 bare_form statement rest = alone statement (words_in rest)
 
@@ -127,6 +130,7 @@ mv_form rest = do
   rs1 ← register_in words.1
   Some (statements.OpImm Addi rd rs1 (lows.Number (pos 0)))
 
+-- `li` with a register and a number
 unfoldable pub li_form : (rest : List ℕ) → Option Statement
 li_form rest = do
   words ← two_in rest
@@ -134,6 +138,7 @@ li_form rest = do
   number ← integer_in words.1
   Some (statements.Li rd number)
 
+-- `la` with a register and a name
 unfoldable pub la_form : (rest : List ℕ) → Option Statement
 la_form rest = do
   words ← two_in rest
@@ -141,12 +146,14 @@ la_form rest = do
   name ← name_in words.1
   Some (statements.La rd name)
 
+-- `j` with a target
 unfoldable pub j_form : (rest : List ℕ) → Option Statement
 j_form rest = do
   word ← word_in rest
   target ← target_in word
   Some (statements.Jal 0 target)
 
+-- `jr` with a register
 unfoldable pub jr_form : (rest : List ℕ) → Option Statement
 jr_form rest = do
   word ← word_in rest
@@ -159,12 +166,14 @@ name_form rest = do
   word ← word_in rest
   name_in word
 
+-- `.word` with a datum
 unfoldable pub word_form : (rest : List ℕ) → Option Statement
 word_form rest = do
   word ← word_in rest
   datum ← datum_in word
   Some (statements.Word datum)
 
+-- `.zero` with a number
 unfoldable pub zero_form : (rest : List ℕ) → Option Statement
 zero_form rest = do
   word ← word_in rest
@@ -177,13 +186,16 @@ onto None rest = None
 onto (Some x) None = None
 onto (Some x) (Some xs) = Some (x ∷ xs)
 
+-- all words, if each can be read
 abbrev pub all_in : {X : Type 0} → (List ℕ → Option X) → (words : List (List ℕ)) → Option (List X)
 all_in read [] = Some []
 all_in read (word ∷ words) = onto (read word) (all_in read words)
 
+-- all of them as numbers
 abbrev pub integers_in : (words : List (List ℕ)) → Option (List ℤ)
 integers_in words = all_in integer_in words
 
+-- all of them as names
 abbrev pub names_in : (words : List (List ℕ)) → Option (List (List ℕ))
 names_in words = all_in name_in words
 
@@ -199,6 +211,7 @@ has_count nodes.Union count = true
 has_count nodes.Func count = nat_le 1 count
 has_count nodes.VarFunc count = nat_le 1 count
 
+-- a node, if its kind has so many fields
 abbrev pub node_by : NodeKind → (fields : List ℤ) → Option Statement
 node_by kind fields = if has_count kind (length fields) then Some (statements.Node kind fields) else None
 
@@ -217,6 +230,7 @@ func_by name node taken = do
   number ← integer_in node
   Some (statements.Func n number taken)
 
+-- `.func` with a name, a node, and `taken` where its address is
 abbrev pub func_words : (words : List (List ℕ)) → Option Statement
 func_words [] = None
 func_words (name ∷ []) = None
@@ -233,6 +247,7 @@ switch_of (name ∷ names) = Some (statements.KindSwitch (name ∷ names))
 abbrev pub only_integer : (words : List (List ℕ)) → Option ℤ
 only_integer words = option_and_then integer_in (only_word words)
 
+-- `.kind`, by what it says first
 unfoldable pub kind_by : (kind : List ℕ) → (words : List (List ℕ)) → Option Statement
 kind_by kind words =
     if bytes_eq kind (codes "call") then option_map statements.KindCall (only_integer words)
@@ -240,6 +255,7 @@ kind_by kind words =
     else (if bytes_eq kind (codes "return") then alone statements.KindReturn words
     else (if bytes_eq kind (codes "switch") then option_and_then switch_of (names_in words) else None)))
 
+-- the same by all its words
 abbrev pub kind_words : (words : List (List ℕ)) → Option Statement
 kind_words [] = None
 kind_words (kind ∷ words) = kind_by kind words

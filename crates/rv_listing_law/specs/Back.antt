@@ -19,6 +19,7 @@ use Rattle.rv_line.specs.declared.line.Line.{Line}
 abbrev pub number_statement : (word : ℕ) → Statement
 number_statement word = statements.Word (data_words.Number (pos word))
 
+-- the fence of everything, or any other by its number
 abbrev pub fence_statement : (word : ℕ) → Statement
 fence_statement word = if word == FULL_FENCE then statements.Fence else number_statement word
 
@@ -54,6 +55,7 @@ plain_line statement = record { label = None; statement = Some statement; record
 abbrev pub word_line : ℕ → Line
 word_line word = plain_line (word_statement word)
 
+-- the line at the head of a listing
 abbrev pub first_line : Line
 first_line = plain_line statements.Text
 

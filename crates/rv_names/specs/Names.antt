@@ -47,6 +47,7 @@ abbrev pub defined : Definition → Entry → Entry
 defined definition entry =
     if is_some entry.definition then entry else record entry { definition = Some definition }
 
+-- the names with a definition of one, where it has none yet
 abbrev pub with_definition : (table : List Entry) → (name : List ℕ) → Definition → List Entry
 with_definition table name definition = changed (defined definition) (with_name table name) name
 
@@ -54,6 +55,7 @@ with_definition table name definition = changed (defined definition) (with_name 
 abbrev pub exported : Entry → Entry
 exported entry = record entry { exported = true }
 
+-- the names with one that other objects see
 abbrev pub with_export : (table : List Entry) → (name : List ℕ) → List Entry
 with_export table name = changed exported (with_name table name) name
 
@@ -66,6 +68,7 @@ with_names table (name ∷ names) = with_names (with_name table name) names
 abbrev pub is_local : Entry → Bool
 is_local entry = is_some entry.definition && not entry.exported
 
+-- other objects see the symbol
 abbrev pub is_seen : Entry → Bool
 is_seen entry = not (is_local entry)
 
@@ -78,9 +81,11 @@ abbrev pub value_by : Area → (value : ℕ) → Option ℕ
 value_by areas.Text value = Some value
 value_by areas.Data value = None
 
+-- the value of what is defined in the text
 abbrev pub value_in_text : Definition → Option ℕ
 value_in_text definition = value_by definition.area definition.value
 
+-- the value of a name that is
 abbrev pub text_value : (table : List Entry) → (name : List ℕ) → Option ℕ
 text_value table name = option_and_then value_in_text (definition_in table name)
 
@@ -88,18 +93,22 @@ text_value table name = option_and_then value_in_text (definition_in table name)
 abbrev pub binding_of : Entry → Binding
 binding_of entry = if is_local entry then bindings.Local else bindings.Global
 
+-- the place of what is defined in an area
 abbrev pub place_in : Area → Place
 place_in areas.Text = places.Text
 place_in areas.Data = places.Data
 
+-- the place of a name
 abbrev pub place_of : Option Definition → Place
 place_of None = places.Undefined
 place_of (Some definition) = place_in definition.area
 
+-- its value
 abbrev pub value_of : Option Definition → ℕ
 value_of None = 0
 value_of (Some definition) = definition.value
 
+-- the symbol of a name
 abbrev pub symbol_of : Entry → Symbol
 symbol_of entry = record {
   name = entry.name;

@@ -15,6 +15,7 @@ abbrev pub filled_next : (next : Option Form) → (number word : ℕ) → Result
 filled_next None number word = Ok None
 filled_next (Some form) number word = immediate form number word >>= λ new. Ok (Some new)
 
+-- the bytes with the word of a second instruction, where there is one
 abbrev pub with_next : (at : ℕ) → (word : Option ℕ) → List ℕ → List ℕ
 with_next at None bytes = bytes
 with_next at (Some word) bytes = with_word at word bytes

@@ -14,9 +14,11 @@ use Rattle.rv_reloc.specs.declared.table.Rule.{Rule}
 abbrev pub one : Formula → Field → Rule
 one formula field = record { formula = formula; field = field; next = None }
 
+-- one field, an immediate of this form
 abbrev pub immediate : Formula → Form → Rule
 immediate formula form = one formula (fields.Immediate form)
 
+-- two fields, in an instruction and the one behind it
 abbrev pub two : Formula → (form next : Form) → Rule
 two formula form next = record { formula = formula; field = fields.Immediate form; next = Some next }
 
@@ -47,5 +49,6 @@ abbrev pub size_by : (next : Option Form) → ℕ
 size_by None = 4
 size_by (Some next) = 8
 
+-- how many bytes the fields of a rule take
 abbrev pub rule_size : Rule → ℕ
 rule_size rule = size_by rule.next

@@ -46,7 +46,8 @@ pub fn apply(
     requires known { is_known reloc.now.kind ≡ true }
     requires within { reloc.now.offset + field_size reloc.now.kind ≤ length bytes.old }
     ensures ok { OnOk result (applied reloc.now at value partner bytes.old ≡ Ok bytes.new) }
-    ensures fault { IfErr result (λ fault. applied reloc.now at value partner bytes.old ≡ Err fault) }
+    ensures fault { IfErr result (λ fault. applied reloc.now at value partner bytes.old
+        ≡ Err fault) }
     ensures same { OnErr result (bytes.new ≡ bytes.old) }
 {
     let Some(rule) = rule_of(reloc.kind) else {

@@ -20,6 +20,7 @@ abbrev pub piece_mark : Option CodeUnit → List ℕ
 piece_mark None = []
 piece_mark (Some unit) = mark_of unit
 
+-- how many words a unit has; one where none begins
 abbrev pub piece_size : Option CodeUnit → ℕ
 piece_size None = 1
 piece_size (Some unit) = size_of unit
@@ -29,6 +30,7 @@ abbrev pub IsPiece : (words : List ℕ) → (at : ℕ) → Option CodeUnit → T
 IsPiece words at None = (at < length words) × ((unit : CodeUnit) → BeginsAt words at unit → ⊥)
 IsPiece words at (Some unit) = BeginsAt words at unit
 
+-- what stands at a word of the listing, with its mark and its size
 abbrev pub IsPieceAt : (words : List ℕ) → (at : ℕ) → (mark : List ℕ) → (size : ℕ) → Type 0
 IsPieceAt words at mark size =
     (piece : Option CodeUnit) × IsPiece words at piece × (mark ≡ piece_mark piece) × (size ≡ piece_size piece)

@@ -23,21 +23,26 @@ offset_text (negsuc n) = codes ".-" ++ decimal (suc n)
 abbrev pub upper_text : (name : List ℕ) → (rd imm : ℕ) → List ℕ
 upper_text name rd imm = name ++ codes " x" ++ decimal rd ++ codes ",0x" ++ hex imm
 
+-- a jump
 abbrev pub jump_text : (rd : ℕ) → (off : ℤ) → List ℕ
 jump_text rd off = codes "jal x" ++ decimal rd ++ codes "," ++ offset_text off
 
+-- a branch
 abbrev pub branch_text : (name : List ℕ) → (rs1 rs2 : ℕ) → (off : ℤ) → List ℕ
 branch_text name rs1 rs2 off =
     name ++ codes " x" ++ decimal rs1 ++ codes ",x" ++ decimal rs2 ++ codes "," ++ offset_text off
 
+-- an instruction with an address, by an offset and a register
 abbrev pub place_text : (name : List ℕ) → (register base : ℕ) → (imm : ℤ) → List ℕ
 place_text name register base imm =
     name ++ codes " x" ++ decimal register ++ codes "," ++ signed_decimal imm ++ codes "(x" ++ decimal base ++ codes ")"
 
+-- an operation on a register and a number
 abbrev pub immediate_text : (name : List ℕ) → (rd rs1 : ℕ) → (imm : ℤ) → List ℕ
 immediate_text name rd rs1 imm =
     name ++ codes " x" ++ decimal rd ++ codes ",x" ++ decimal rs1 ++ codes "," ++ signed_decimal imm
 
+-- an operation on two registers
 abbrev pub registers_text : (name : List ℕ) → (rd rs1 rs2 : ℕ) → List ℕ
 registers_text name rd rs1 rs2 =
     name ++ codes " x" ++ decimal rd ++ codes ",x" ++ decimal rs1 ++ codes ",x" ++ decimal rs2

@@ -4,6 +4,7 @@ use Rattle.std.specs.Fmt.{decimal}
 use Rattle.cfi_commands.specs.declared.words.Numbers.{Numbers}
 use Rattle.cfi_commands.specs.declared.words.Numbers.TheVariants as numbers
 
+-- no number, one or two
 abbrev pub numbers_text : Numbers → List ℕ
 numbers_text numbers.None = []
 numbers_text (numbers.One number) = codes " " ++ decimal number

@@ -6,10 +6,12 @@ use Rattle.cfi_plan.specs.declared.journal.ModuleLine.{ModuleLine}
 use Rattle.cfi_report.specs.Line.{what_fields, who_field}
 use Rattle.cfi_report.specs.Report.{IsField}
 
+-- the numbers of a line of the journal are 32-bit numbers
 pub record HasEntryFields (entry : Entry) : Type 0 where
   pub who : IsField (who_field entry.who)
   pub what : AllByRecursion IsField (what_fields entry.what)
 
+-- those of a module's line are
 pub record HasModuleFields (line : ModuleLine) : Type 0 where
   pub number : line.number < 2 ^ 32
   pub base : line.base < 2 ^ 32

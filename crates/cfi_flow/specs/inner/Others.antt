@@ -27,6 +27,7 @@ pub record AddsEdges (old : List Edge) (Told : (slot address : ℕ) → Type 0) 
 abbrev pub JoinsFresh : (fan known : Fan) → (slot address : ℕ) → Type 0
 JoinsFresh fan known slot address = Joins fan slot address × (Joins known slot address → ⊥)
 
+-- the list has what a fan joins and a known fan does not, beside what it had
 abbrev pub AddsOthers : (old : List Edge) → (fan known : Fan) → (new : List Edge) → Type 0
 AddsOthers old fan known new = AddsEdges old (JoinsFresh fan known) new
 
@@ -41,5 +42,6 @@ abbrev pub IsFreshBelow : (known flow : Flow) → (count slot address : ℕ) →
 IsFreshBelow known flow count slot address =
     (node : ℕ) × (node < count) × IsFreshAt known flow node slot address
 
+-- it has what the nodes below a number bring, beside what it had
 abbrev pub AddsFresh : (known flow : Flow) → (count : ℕ) → (old new : List Edge) → Type 0
 AddsFresh known flow count old new = AddsEdges old (IsFreshBelow known flow count) new

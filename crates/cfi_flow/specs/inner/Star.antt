@@ -2,6 +2,7 @@
 use Rattle.std.specs.Prelude.{◌≡◌, ℕ, zero, suc, ◌<◌, ◌==◌, List, length, slice_index_or, if◌then◌else◌}
 use Rattle.cfi_flow.specs.declared.links.Link.{Link}
 
+-- a link that stands where none is
 abbrev pub no_link : Link
 no_link = record { from = 0; to = 0 }
 

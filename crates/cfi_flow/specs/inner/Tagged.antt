@@ -21,6 +21,7 @@ abbrev pub carried_on : Option ℕ → (to : ℕ) → List Link
 carried_on None to = []
 carried_on (Some tag) to = record { from = to; to = tag } ∷ []
 
+-- what a link carries on from the tag of the node at which it begins
 abbrev pub carried_by : (tags : List (Option ℕ)) → Link → List Link
 carried_by tags link = carried_on (tag_of tags link.from) link.to
 

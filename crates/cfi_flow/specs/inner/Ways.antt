@@ -18,10 +18,12 @@ between slot target = []
 abbrev pub return_edges : (places : List (Option ℕ)) → Link → List Edge
 return_edges places link = between (Some link.to) (tag_of places link.from)
 
+-- few edges of a site: the branch of its node goes to the place after the call, and to the place of its node
 abbrev pub site_edges : (places slots : List (Option ℕ)) → Link → List Edge
 site_edges places slots link =
     between (tag_of slots link.from) (Some link.to) ++ between (tag_of slots link.from) (tag_of places link.from)
 
+-- few edges of an arrow: the branch of the node to which it leads goes to the places of both
 abbrev pub arrow_edges : (places slots : List (Option ℕ)) → Link → List Edge
 arrow_edges places slots link =
     between (tag_of slots link.to) (tag_of places link.from) ++ between (tag_of slots link.to) (tag_of places link.to)

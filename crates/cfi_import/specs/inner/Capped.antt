@@ -10,6 +10,7 @@ use Rattle.cfi_import.specs.declared.start.TheConstants.{STUB_BYTES, CELL_BYTES,
 abbrev pub GREATEST : ℕ
 GREATEST = 18446744073709551615
 
+-- the number, or the greatest that the machine has
 abbrev pub capped : ℕ → ℕ
 capped n = min n GREATEST
 

@@ -14,6 +14,7 @@ abbrev pub mark_at : List Bool → Option ℕ → List Bool
 mark_at marks None = marks
 mark_at marks (Some number) = if nat_lt number (length marks) then set marks number true else marks
 
+-- the marks with that of the symbol to which a call or jump leads
 abbrev pub marked : List Bool → Reloc → List Bool
 marked marks reloc = mark_at marks (led_to reloc)
 

@@ -46,6 +46,7 @@ is_well_formed t before f =
     not (f.length == 0) && nat_le before f.offset && nat_le (byte_end f) (4 * count_of t) && is_item_at t f.offset
     && is_bound_at t (byte_end f) && not (has_code t before f.offset)
 
+-- a function is well formed behind others; where there is none, no code is left
 abbrev pub is_formed_at : Words → (before : ℕ) → Option Function → Bool
 is_formed_at t before None = not (has_code t before (4 * count_of t))
 is_formed_at t before (Some f) = is_well_formed t before f
@@ -58,9 +59,11 @@ is_malformed t functions k = not (is_formed_at t (byte_end_before functions k) (
 abbrev pub runs_off : Words → Function → Bool
 runs_off t f = not (holds is_unlinked (insn_at t (byte_end f / 4 - 1)))
 
+-- a function runs off its end, if there is one
 abbrev pub runs_off_at : Words → Option Function → Bool
 runs_off_at t None = false
 runs_off_at t (Some f) = runs_off t f
 
+-- the function of this number does
 abbrev pub falls_through : Words → List Function → (k : ℕ) → Bool
 falls_through t functions k = runs_off_at t (slice_get functions k)

@@ -6,14 +6,17 @@ use Rattle.rv_insn.specs.declared.insn.ImmOp.{ImmOp}
 use Rattle.rv_insn.specs.declared.insn.ImmOp.TheVariants as ops
 use Rattle.cfi_items.specs.Insns.{is_zero, jump_writes}
 
+-- it is a LUI
 abbrev pub is_lui : Insn → Bool
 is_lui (insns.Lui rd imm) = true
 is_lui insn = false
 
+-- it is a JAL
 abbrev pub is_jal : Insn → Bool
 is_jal (insns.Jal rd off) = true
 is_jal insn = false
 
+-- it is a store
 abbrev pub is_store : Insn → Bool
 is_store (insns.Store kind rs1 rs2 imm) = true
 is_store insn = false
@@ -45,5 +48,6 @@ abbrev pub is_other_link : Option ℕ → Bool
 is_other_link None = false
 is_other_link (Some rd) = not (rd == 0 || rd == 1)
 
+-- it links a register that no jump may
 abbrev pub is_bad_link : Insn → Bool
 is_bad_link insn = is_other_link (jump_writes insn)

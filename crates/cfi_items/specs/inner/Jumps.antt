@@ -10,6 +10,7 @@ use Rattle.cfi_values.specs.Some.{holds}
 use Rattle.cfi_items.specs.Items.{is_indirect}
 use Rattle.cfi_items.specs.inner.Functions.{is_own_item}
 
+-- the branch is a call by a pointer
 abbrev pub is_call : Kind → Bool
 is_call (kinds.Call node) = true
 is_call (kinds.Tail node) = false
@@ -17,6 +18,7 @@ is_call kinds.Return = false
 is_call (kinds.Switch entries) = false
 is_call (kinds.Import name cell) = false
 
+-- both tests have one answer
 abbrev pub same : Bool → Bool → Bool
 same a b = if a then b else not b
 
@@ -42,6 +44,7 @@ switches_astray t functions at (kinds.Tail node) = false
 switches_astray t functions at kinds.Return = false
 switches_astray t functions at (kinds.Import name cell) = false
 
+-- a branch is a switch with an entry elsewhere
 abbrev pub switches_astray_by : Words → List Function → (at : ℕ) → Option Kind → Bool
 switches_astray_by t functions at None = false
 switches_astray_by t functions at (Some kind) = switches_astray t functions at kind

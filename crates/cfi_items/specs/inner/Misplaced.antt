@@ -52,6 +52,7 @@ leads_to_bound t places.Undefined value addend = true
 leads_to_bound t places.Absolute value addend = true
 leads_to_bound t places.Data value addend = true
 
+-- a relocation's symbol and addend name what may be named
 abbrev pub names_well : Words → Option Symbol → (addend : ℤ) → Bool
 names_well t None addend = true
 names_well t (Some symbol) addend = leads_to_bound t symbol.place symbol.value addend

@@ -39,10 +39,12 @@ abbrev pub calls_well : Words → List Symbol → List Function → (w : ℕ) �
 calls_well t symbols functions w =
     jumps_well t functions (4 * w) (holds is_unlinked (insn_at t (w + 1))) (aim_of_pair t symbols w)
 
+-- the instruction of a word leads where it may
 abbrev pub goes_by : Words → List Symbol → List Function → (w : ℕ) → Option Insn → Bool
 goes_by t symbols functions w None = true
 goes_by t symbols functions w (Some insn) = leads_well t symbols functions w insn
 
+-- so does the item that begins at the word, a call or a single instruction
 abbrev pub goes_well : Words → List Symbol → List Function → (w : ℕ) → Bool
 goes_well t symbols functions w =
     if is_pair t w then calls_well t symbols functions w else goes_by t symbols functions w (insn_at t w)

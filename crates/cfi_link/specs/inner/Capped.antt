@@ -8,9 +8,11 @@ use Rattle.cfi_link.specs.Gap.{gap}
 abbrev pub GREATEST : ℕ
 GREATEST = 18446744073709551615
 
+-- the number, or the greatest that the machine has
 abbrev pub capped : ℕ → ℕ
 capped n = min n GREATEST
 
+-- so of each size
 abbrev pub capped_sizes : Sizes → Sizes
 capped_sizes sizes = record {
   symbols = capped sizes.symbols;

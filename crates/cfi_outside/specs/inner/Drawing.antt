@@ -10,6 +10,7 @@ abbrev pub within_limits : Option ℕ → Option ℕ
 within_limits None = None
 within_limits (Some count) = if nat_le MIN_COUNT count && nat_le count MAX_COUNT then Some count else None
 
+-- a count that may be drawn
 abbrev pub count_in : (word : List ℕ) → Option ℕ
 count_in word = within_limits (small_number_in word)
 

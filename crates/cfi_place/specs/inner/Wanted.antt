@@ -13,6 +13,7 @@ is_undefined_place places.Absolute = false
 is_undefined_place places.Text = false
 is_undefined_place places.Data = false
 
+-- the symbol is a reference
 abbrev pub is_undefined : Symbol → Bool
 is_undefined symbol = is_undefined_place symbol.place
 

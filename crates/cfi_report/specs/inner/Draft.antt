@@ -56,50 +56,61 @@ report_of draft = record {
 
 -- which kinds of line may follow
 
+-- nothing was read yet
 abbrev pub is_start : Stage → Bool
 is_start stages.Start = true
 is_start _ = false
 
+-- the title was
 abbrev pub is_titled : Stage → Bool
 is_titled stages.Titled = true
 is_titled _ = false
 
+-- a line of a module may come
 abbrev pub takes_modules : Stage → Bool
 takes_modules stages.Modules = true
 takes_modules _ = false
 
+-- one of the journal may
 abbrev pub takes_journal : Stage → Bool
 takes_journal stages.Modules = true
 takes_journal stages.Journal = true
 takes_journal _ = false
 
+-- one of a guest may
 abbrev pub takes_guests : Stage → Bool
 takes_guests stages.Modules = true
 takes_guests stages.Journal = true
 takes_guests stages.Guests = true
 takes_guests _ = false
 
+-- an entry of a log may, but a pick of the policy of the pick before
 abbrev pub takes_log : Stage → Log → Bool
 takes_log (stages.Log None) entry = true
 takes_log (stages.Log (Some last)) entry = differ last entry
 takes_log _ entry = false
 
+-- the output may
 abbrev pub takes_out : Stage → Bool
 takes_out (stages.Log last) = true
 takes_out _ = false
 
+-- what the guest has ended with may
 abbrev pub takes_stop : Stage → Bool
 takes_stop stages.Out = true
 takes_stop _ = false
 
+-- its units may
 abbrev pub takes_units : Stage → Bool
 takes_units stages.Stop = true
 takes_units _ = false
 
+-- its steps may
 abbrev pub takes_steps : Stage → Bool
 takes_steps stages.Units = true
 takes_steps _ = false
 
+-- the report has ended
 abbrev pub is_whole : Stage → Bool
 is_whole stages.Ended = true
 is_whole _ = false

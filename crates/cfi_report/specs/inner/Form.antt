@@ -51,31 +51,37 @@ bytes_in word =
     if bytes_eq word (codes "-") then Some []
     else (if bytes_eq word [] then None else pairs_in word)
 
+-- whose line of the journal it is
 unfoldable pub who_in : (word : List ℕ) → Option Who
 who_in word = if bytes_eq word (codes "script") then Some Script else option_map Guest (small_number_in word)
 
 -- what came of a call, in two words to five
 
+-- what a line of the journal of two words says
 unfoldable pub what_two : (verb end : List ℕ) → Option JournalLine
 what_two verb end =
     if bytes_eq verb (codes "refresh") && bytes_eq end (codes "epochs") then Some RefreshEpochs else None
 
+-- what one of three says of a load
 unfoldable pub loaded_three : (end : List ℕ) → (number : ℕ) → Option JournalLine
 loaded_three end number =
     if bytes_eq end (codes "full") then Some (LoadFull number)
     else (if bytes_eq end (codes "epochs") then Some (LoadEpochs number) else None)
 
+-- what one of three says
 unfoldable pub what_three : (verb word end : List ℕ) → Option JournalLine
 what_three verb word end =
     if bytes_eq verb (codes "load") then option_and_then (loaded_three end) (small_number_in word)
     else (if bytes_eq verb (codes "refresh") && bytes_eq word (codes "ok") then option_map RefreshOk (small_number_in end)
     else None)
 
+-- what one of four says of a load
 unfoldable pub loaded_four : (word : List ℕ) → (number last : ℕ) → Option JournalLine
 loaded_four word number last =
     if bytes_eq word (codes "again") then Some (LoadAgain number last)
     else (if bytes_eq word (codes "place") then Some (LoadPlace number last) else None)
 
+-- what one of four says
 unfoldable pub what_four : (verb word other end : List ℕ) → Option JournalLine
 what_four verb word other end =
     if bytes_eq verb (codes "load") then (do
@@ -88,12 +94,14 @@ what_four verb word other end =
       Some (RefreshVersions guest quiet))
     else None)
 
+-- what one of five says of a load
 unfoldable pub loaded_five : (word : List ℕ) → (number first last : ℕ) → Option JournalLine
 loaded_five word number first last =
     if bytes_eq word (codes "ok") then Some (LoadOk number first last)
     else (if bytes_eq word (codes "verify") then Some (LoadVerify number first last)
     else (if bytes_eq word (codes "versions") then Some (LoadVersions number first last) else None))
 
+-- what one of five says
 unfoldable pub what_five : (verb word other first last : List ℕ) → Option JournalLine
 what_five verb word other first last =
     if bytes_eq verb (codes "load") then (do
@@ -110,14 +118,17 @@ entry_form who what = do
   l ← what
   Some (line.Journal (record { who = w; what = l }))
 
+-- a line of the journal, by its keyword and what it says
 unfoldable pub journal_form : (keyword who : List ℕ) → Option JournalLine → Option Line
 journal_form keyword who what = if bytes_eq keyword (codes "journal") then entry_form (who_in who) what else None
 
 -- lines of one word to seven
 
+-- a line of one word
 unfoldable pub lone_form : (keyword : List ℕ) → Option Line
 lone_form keyword = if bytes_eq keyword (codes "end") then Some line.End else None
 
+-- a line of two
 unfoldable pub pair_form : (keyword word : List ℕ) → Option Line
 pair_form keyword word =
     if bytes_eq keyword (codes "report") then (if bytes_eq word (codes "1") then Some line.Title else None)
@@ -128,6 +139,7 @@ pair_form keyword word =
     else (if bytes_eq keyword (codes "steps") then option_map line.Steps (small_number_in word)
     else None))))
 
+-- what a guest has stopped with, in two words
 unfoldable pub stop_form : (word end : List ℕ) → Option Line
 stop_form word end =
     if bytes_eq word (codes "exit") then option_map (λ code. line.Stop (Some (Exit code))) (small_number_in end)
@@ -136,24 +148,28 @@ stop_form word end =
     then option_map (λ address. line.Stop (Some (Align address))) (hex_address end)
     else None))
 
+-- the epoch and the policy in force
 unfoldable pub force_form : (epoch policy : List ℕ) → Option Line
 force_form epoch policy = do
   e ← small_number_in epoch
   p ← small_number_in policy
   Some (line.Force e p)
 
+-- a guest, by its number and entry
 unfoldable pub guest_form : (number entry : List ℕ) → Option Line
 guest_form number entry = do
   n ← small_number_in number
   e ← name_in entry
   Some (line.Guest n e)
 
+-- some picks of a policy
 unfoldable pub pick_form : (policy count : List ℕ) → Option Line
 pick_form policy count = do
   p ← small_number_in policy
   c ← small_number_in count
   if c == 0 then None else Some (line.Log (Pick p c))
 
+-- a line of three words
 unfoldable pub three_form : (keyword word end : List ℕ) → Option Line
 three_form keyword word end =
     if bytes_eq keyword (codes "force") then force_form word end
@@ -162,6 +178,7 @@ three_form keyword word end =
     else (if bytes_eq keyword (codes "stop") then stop_form word end
     else None)))
 
+-- an open that was answered, by its address and policy or by its cause
 unfoldable pub opened_form : (word end : List ℕ) → (number : ℕ) → Option Line
 opened_form word end number =
     if bytes_eq word (codes "cause") then option_map (λ cause. line.Log (Cause number cause)) (small_number_in end)
@@ -170,11 +187,13 @@ opened_form word end number =
       policy ← small_number_in end
       Some (line.Log (Open number address policy)))
 
+-- a line of four words
 unfoldable pub four_form : (keyword word other end : List ℕ) → Option Line
 four_form keyword word other end =
     if bytes_eq keyword (codes "open") then option_and_then (opened_form other end) (small_number_in word)
     else journal_form keyword word (what_two other end)
 
+-- the line of a module
 unfoldable pub module_form : (number name base slot data_base policy : List ℕ) → Option Line
 module_form number name base slot data_base policy = do
   n ← small_number_in number
@@ -185,6 +204,7 @@ module_form number name base slot data_base policy = do
   p ← small_number_in policy
   Some (line.Module (record { number = n; name = called; base = b; slot = s; data_base = d; policy = p }))
 
+-- a line of seven words
 unfoldable pub seven_form : (keyword a b c d e f : List ℕ) → Option Line
 seven_form keyword a b c d e f =
     if bytes_eq keyword (codes "module") then module_form a b c d e f

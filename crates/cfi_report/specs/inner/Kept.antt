@@ -2,6 +2,7 @@
 use Rattle.cfi_report.specs.declared.draft.Draft.TheInside.{Inside}
 use Rattle.cfi_report.specs.inner.Draft.{ReportSoFar}
 
+-- what is kept, as clauses see it
 abbrev pub view_of : Inside → ReportSoFar
 view_of a = record {
   stage = a.stage;

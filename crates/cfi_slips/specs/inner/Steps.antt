@@ -17,6 +17,7 @@ Seated = Me (Unit {0}) View
 abbrev pub issuing : (guest : ℕ) → StubsView → StubsView
 issuing guest u = record u { out = slice_set u.out guest true; held = Some (slip_by guest u.told) }
 
+-- a slip goes out
 abbrev pub Issues : Step (Unit {0}) → Seated → (found : ℕ) → Seated → Type 0
 Issues s old found new = new ≡ (Stubs (issuing s.first (stubs_of old.0)), old.1)
 
@@ -24,6 +25,7 @@ Issues s old found new = new ≡ (Stubs (issuing s.first (stubs_of old.0)), old.
 abbrev pub telling : (more : List Entry) → StubsView → SlipView → StubsView
 telling more u p = record u { told = u.told ++ more; held = Some (with_lines (lines_of p.guest more) p) }
 
+-- what is told in a slip's name, on either of both
 abbrev pub told_view : (more : List Entry) → View → View → View
 told_view more (Stubs u) (Slip p) = Stubs (telling more u p)
 told_view more (Stubs u) (Stubs v) = Stubs u
@@ -37,6 +39,7 @@ left_view (Stubs u) = Stubs (record u { held = None })
 left_view (Slip p) = Slip p
 left_view Spent = Spent
 
+-- the view of the slip that goes out
 abbrev pub seat_view : View → View
 seat_view (Stubs u) = Slip (held_by u.held)
 seat_view (Slip p) = Spent
@@ -46,6 +49,7 @@ seat_view Spent = Spent
 abbrev pub taking : StubsView → StubsView
 taking u = record u { out = slice_set u.out (held_by u.held).guest false; held = None }
 
+-- a slip comes back, which says what was told in its guest's name
 pub record Takes (s : Step (Unit {0})) (old : Seated) (found : ℕ) (new : Seated) : Type 0 where
   pub is : new ≡ (Stubs (taking (stubs_of old.0)), old.1)
   pub says : (held_by (stubs_of old.0).held).lines

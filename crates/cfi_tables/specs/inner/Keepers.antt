@@ -17,6 +17,7 @@ pub record Beside : Type 0 where
   pub policy : ℕ
   pub out : List Bool
 
+-- what the keeper's value has beside its seat agrees with what it keeps
 pub record IsKeeper (table : TableId) (k : Key) (at : TableId) (id : ℕ) (me : Seated) (a : Beside) : Type 0 where
   pub seat : IsAt table at id me (idle_view k (keeping_at me))
   pub layout_is : a.layout ≡ k.code_words

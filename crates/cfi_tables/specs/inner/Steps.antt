@@ -25,9 +25,11 @@ Seated = Me (Unit {0}) View
 
 -- ---- the keeper's stores
 
+-- the stores are made up to the word of this rank
 abbrev pub stored_to : (rank : ℕ) → KeeperView → KeeperView
 stored_to rank u = record u { stored = rank + 1 }
 
+-- a store of an update
 abbrev pub Stores : Key → Step (Unit {0}) → Seated → (found : ℕ) → Seated → Type 0
 Stores k s old found new = new ≡ (Keeper (stored_to (rank k.code_words s.word) (keeper_of old.0)), old.1)
 
@@ -61,9 +63,11 @@ abbrev pub test_refusal : Key → (mark : ℕ) → KeeperView → (word : ℕ) �
 test_refusal k mark u word =
     record { guest = u.tested; quiet = word - 1; epoch = next_epoch (tables_of k u); mark = mark }
 
+-- the update that was asked for is not admitted
 abbrev pub refused : Refusal → KeeperView → KeeperView
 refused refusal u = record u { asked = None; tested = 0; refusals = u.refusals ++ refusal ∷ [] }
 
+-- what a test of a QUIET word makes: the next guest's turn, or a refusal
 abbrev pub tested_by : Key → Entry → (word : ℕ) → KeeperView → KeeperView
 tested_by k entry word u =
     if is_passed k u word then test_passed entry (loaded word u)
@@ -81,11 +85,13 @@ pub record Tests (k : Key) (entry : Entry) (s : Step (Unit {0})) (old : Seated) 
 
 -- ---- a pass's loads and stores
 
+-- a pass loads a word that tells an epoch
 pub record Loads (k : Key) (s : Step (Unit {0})) (old : Seated) (found : ℕ) (new : Seated) : Type 0 where
   pub same : new ≡ (Pass (pass_of new.0), old.1)
   pub load : (place : Place) → IsPlace k.code_words place → TellsEpoch place
       → word_number k.code_words place ≡ s.word → IsLoad k place found (pass_of old.0) (pass_of new.0)
 
+-- a pass fetches a word of the code
 pub record Fetches (k : Key) (s : Step (Unit {0})) (old : Seated) (found : ℕ) (new : Seated) : Type 0 where
   pub same : new ≡ (Pass (pass_of new.0), old.1)
   pub small : found < 2 ^ 32
@@ -100,6 +106,7 @@ Parks s old found new = new ≡ (Pass (parked (pass_of old.0)), old.1)
 abbrev pub published : PassView → PassView
 published p = record p { quiet = p.sight.latest; parked = false }
 
+-- a pass publishes an epoch that is not before its last
 pub record Publishes (s : Step (Unit {0})) (old : Seated) (found : ℕ) (new : Seated) : Type 0 where
   pub is : new ≡ (Pass (published (pass_of old.0)), old.1)
   pub later : (pass_of old.0).quiet ≤ (pass_of old.0).sight.latest
@@ -114,6 +121,7 @@ registered k guest u = record u {
   held = Some (admitted k (keeping_of u) guest);
 }
 
+-- the keeper registers a guest
 abbrev pub Registers : Key → Step (Unit {0}) → Seated → (found : ℕ) → Seated → Type 0
 Registers k s old found new = new ≡ (Keeper (registered k (s.word - 1) (keeper_of old.0)), old.1)
 
@@ -129,6 +137,7 @@ told k u = record u {
   held = Some (noted k (keeping_of u) (held_by u.held));
 }
 
+-- the keeper tells the pass that it holds what it has seen
 pub record Tells (k : Key) (s : Step (Unit {0})) (old : Seated) (found : ℕ) (new : Seated) : Type 0 where
   pub is : new ≡ (Keeper (told k (keeper_of old.0)), old.1)
   pub agrees : AgreesWith k (keeper_of old.0).entries (keeper_of old.0).refusals (held_by (keeper_of old.0).held).sight
@@ -142,6 +151,7 @@ cleared u = record u {
   held = None;
 }
 
+-- the keeper takes a guest's pass back and clears its word
 pub record Clears (k : Key) (s : Step (Unit {0})) (old : Seated) (found : ℕ) (new : Seated) : Type 0 where
   pub is : new ≡ (Keeper (cleared (keeper_of old.0)), old.1)
   pub agrees : AgreesWith k (keeper_of old.0).entries (keeper_of old.0).refusals (held_by (keeper_of old.0).held).sight
@@ -155,6 +165,7 @@ left_view (Keeper u) = Keeper (record u { held = None })
 left_view (Pass p) = Pass p
 left_view Spent = Spent
 
+-- the view of a pass that the keeper gives out
 abbrev pub seat_view : View → View
 seat_view (Keeper u) = Pass (held_by u.held)
 seat_view (Pass p) = Spent

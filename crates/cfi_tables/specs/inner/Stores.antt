@@ -40,6 +40,7 @@ abbrev pub asked_at : Key → Keeping → Entry → (tested : ℕ) → KeeperVie
 asked_at k keeping entry zero = idle_view k keeping
 asked_at k keeping entry (suc more) = record (idle_view k keeping) { asked = Some entry; tested = suc more }
 
+-- the keeper's view once so many words were tested: asked, or about to store
 abbrev pub testing : Key → Keeping → Entry → (tested : ℕ) → KeeperView
 testing k keeping entry tested =
     if nat_lt tested GUESTS then asked_at k keeping entry tested else view_at (grown_by entry keeping.quiets keeping) 0

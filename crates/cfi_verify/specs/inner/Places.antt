@@ -21,6 +21,7 @@ AreRising spots = AllPairs (λ s t. s.at < t.at) spots
 abbrev pub AreSmall : List Spot → Type 0
 AreSmall spots = All (λ s. 4 * s.at < 2 ^ 32) spots
 
+-- the places of checks are 32-bit numbers in bytes
 abbrev pub AreSmallChecks : List CheckSpot → Type 0
 AreSmallChecks checks = All (λ c. 4 * c.at < 2 ^ 32) checks
 

@@ -9,6 +9,7 @@ use Rattle.cfi_model.specs.Words.{no_entry}
 abbrev pub entry_by : List Image → (policy : ℕ) → Entry
 entry_by images policy = record { policy = policy; image = slice_index_or images policy no_entry.image; mark = 0 }
 
+-- the entries of policies, in order
 abbrev pub entries_by : List Image → (policies : List ℕ) → List Entry
 entries_by images policies = map (entry_by images) policies
 
@@ -25,6 +26,7 @@ update_by images policies (Some image) = record {
   mark = 0;
 }
 
+-- what was asked for, as an entry
 abbrev pub asked_by : List Image → (policies : List ℕ) → Option (Option Image) → Option Entry
 asked_by images policies None = None
 asked_by images policies (Some image) = Some (update_by images policies image)

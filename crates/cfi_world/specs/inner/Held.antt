@@ -11,6 +11,7 @@ pub record Held : Type 0 where
   pub tables : Tables
   pub room : ℕ
 
+-- what is kept, as clauses see it
 abbrev pub tables_by : Inside → Tables
 tables_by a = record {
   code_words = a.layout;
@@ -22,6 +23,7 @@ tables_by a = record {
   tested = a.tested;
 }
 
+-- the tables, and the room for updates
 abbrev pub held_by : Inside → Held
 held_by a = record { tables = tables_by a; room = a.room }
 

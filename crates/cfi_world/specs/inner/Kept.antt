@@ -3,6 +3,7 @@ use Rattle.cfi_model.specs.World.{World}
 use Rattle.cfi_world.specs.Worlds.{IsWorld}
 use Rattle.cfi_world.specs.declared.world.World.TheInside.{Inside}
 
+-- what is kept, as clauses see it
 abbrev pub kept_world : Inside → World
 kept_world a = record {
   tables = a.tables.tables;
@@ -14,5 +15,6 @@ kept_world a = record {
   updates = a.updates;
 }
 
+-- it is a world
 abbrev pub IsKeptWorld : Inside → Type 0
 IsKeptWorld a = IsWorld (kept_world a)

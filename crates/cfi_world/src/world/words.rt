@@ -25,7 +25,8 @@ impl World {
 
     /// The Tary word of an address: one past the code is that of code word 0.
     pub fn tary(&self, at: u32) -> u64
-        ensures { let t = self.now.tables in result ≡ word_at t (Tary (tary_index t.code_words at)) }
+        ensures { let t = self.now.tables in result
+            ≡ word_at t (Tary (tary_index t.code_words at)) }
     {
         tary(&self.tables, at)
     }

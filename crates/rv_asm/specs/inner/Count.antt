@@ -10,13 +10,16 @@ most_of (statements.KindSwitch names) = length names
 most_of statements.Blank = 1
 most_of other = 2
 
+-- how many names a statement may say
 abbrev pub said_of : Option Statement → ℕ
 said_of None = 0
 said_of (Some statement) = most_of statement
 
+-- how many a label is
 abbrev pub label_of : Option (List ℕ) → ℕ
 label_of None = 0
 label_of (Some name) = 1
 
+-- how many a line may say
 abbrev pub count_of : Line → ℕ
 count_of line = label_of line.label + said_of line.statement

@@ -37,6 +37,7 @@ pub record Draft : Type 0 where
   pub kind : Option Kind
   pub function : Option Function
 
+-- nothing, before the first line
 abbrev pub empty : Draft
 empty = record {
   text = [];
@@ -63,6 +64,7 @@ with_words spot draft added words =
       text_relocs = draft.text_relocs ++ added;
     }) else None
 
+-- a draft with the words of a statement
 abbrev pub with_code : File → Spot → Draft → Statement → Option Draft
 with_code file spot draft statement = do
   words ← words_of file.names spot.text_end statement
@@ -87,17 +89,20 @@ with_data spot draft word added =
       data_relocs = draft.data_relocs ++ added;
     }) else None
 
+-- a draft with a word of data
 abbrev pub with_datum : (table : List Entry) → Spot → Draft → Datum → Option Draft
 with_datum table spot draft (data_words.Number number) = with_data spot draft (low_word number) []
 with_datum table spot draft (data_words.Name name) =
     with_data spot draft 0 (reloc_by table areas.Data spot.data_end relocs.WORD name ∷ [])
 
+-- a draft with so many zero bytes, if they fit
 abbrev pub with_zeros : Spot → Draft → ℤ → Option Draft
 with_zeros spot draft (pos n) =
     if nat_le (spot.data_end + n) MAX_DATA
     then Some (record draft { data_bytes = draft.data_bytes ++ replicate n 0 }) else None
 with_zeros spot draft (negsuc n) = None
 
+-- a draft with a word, in its area
 abbrev pub with_word : Area → File → Spot → Draft → Datum → Option Draft
 with_word areas.Text file spot draft datum = with_code file spot draft (statements.Word datum)
 with_word areas.Data file spot draft datum = with_datum file.names spot draft datum
@@ -132,6 +137,7 @@ abbrev pub with_kind : Draft → Option Kind → Option Draft
 with_kind draft None = None
 with_kind draft (Some kind) = Some (record draft { kind = Some kind })
 
+-- a draft with a switch of these entries
 abbrev pub with_switch : Draft → (values : List ℕ) → Option Draft
 with_switch draft values =
     if nat_lt (length values) (2 ^ 32) then with_kind draft (Some (branches.Switch values)) else None

@@ -21,5 +21,6 @@ abbrev pub found_by : Spot → Draft → (rest : List Row) → Found
 found_by spot draft rest =
     record { spot = spot; function = draft.function; kind = draft.kind; jump = jump_follows rest }
 
+-- a statement stands where it may not
 abbrev pub is_astray : File → Draft → (rest : List Row) → Spot → Statement → Bool
 is_astray file draft rest spot statement = is_misplaced file (found_by spot draft rest) statement

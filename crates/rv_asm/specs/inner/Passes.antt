@@ -26,6 +26,7 @@ abbrev pub or_range : (number : ℕ) → Option Draft → Result Draft AsmFault
 or_range number None = Err (Range number)
 or_range number (Some draft) = Ok draft
 
+-- a draft with the statement of a row, if the names up to it are few enough, or its fault
 abbrev pub within : File → Draft → Row → Statement → Result Draft AsmFault
 within file draft row statement =
     if nat_lt MAX_SYMBOLS row.names then Err (Range row.number)
@@ -39,6 +40,7 @@ with_said file draft rest row statement =
     else (if is_twice file.names row.number row.label statement then Err (Twice row.number)
     else within file draft row statement))
 
+-- a draft with what a row says; a row that is no statement has bad syntax
 abbrev pub with_row : File → Draft → (rest : List Row) → Row → Option Statement → Result Draft AsmFault
 with_row file draft rest row None = Err (Syntax row.number)
 with_row file draft rest row (Some statement) = with_said file draft rest row statement
@@ -75,6 +77,7 @@ drafted_by file lines rows = with_rows file empty rows >>= end_of_lines file lin
 abbrev pub file_of : Survey → File
 file_of survey = record { names = in_order survey.names; kinds = survey.kinds; records = survey.records }
 
+-- what the second pass makes of what the first has surveyed
 abbrev pub passed_by : Survey → Result Object AsmFault
 passed_by survey = drafted_by (file_of survey) survey.lines survey.rows
 

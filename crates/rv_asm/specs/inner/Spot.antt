@@ -25,6 +25,7 @@ abbrev pub beyond : Spot → (area : Area) → Statement → Spot
 beyond spot areas.Text statement = record spot { text_end = plus spot.text_end (text_size statement) }
 beyond spot areas.Data statement = record spot { data_end = plus spot.data_end (at_most (data_size statement)) }
 
+-- where the line behind a statement stands
 abbrev pub after : Spot → Statement → Spot
 after spot statements.Text = record spot { area = areas.Text }
 after spot statements.Data = record spot { area = areas.Data }

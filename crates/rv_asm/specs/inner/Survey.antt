@@ -22,6 +22,7 @@ abbrev pub with_reference : (table : List Entry) → Option (ℕ × List ℕ) �
 with_reference table None = table
 with_reference table (Some reference) = with_name table reference.1
 
+-- the names with those of a statement
 abbrev pub with_statement : (table : List Entry) → (number : ℕ) → Spot → Statement → List Entry
 with_statement table number spot (statements.La rd name) =
     with_name (with_definition table (pair_label spot.pairs) (definition_at number spot)) name
@@ -31,6 +32,7 @@ with_statement table number spot (statements.Func name node taken) =
 with_statement table number spot (statements.KindSwitch names) = with_names table names
 with_statement table number spot statement = with_reference table (reference_of statement)
 
+-- the names with those of what stands on a line
 abbrev pub with_said : (table : List Entry) → (number : ℕ) → Spot → Option Statement → List Entry
 with_said table number spot None = table
 with_said table number spot (Some statement) = with_statement table number spot statement
@@ -40,6 +42,7 @@ abbrev pub with_label : (table : List Entry) → (number : ℕ) → Spot → Opt
 with_label table number spot None = table
 with_label table number spot (Some name) = with_definition table name (definition_at number spot)
 
+-- the names with those of a line
 abbrev pub names_of : (table : List Entry) → (number : ℕ) → Spot → Line → List Entry
 names_of table number spot line =
     with_said (with_label table number spot line.label) number spot line.statement
@@ -54,6 +57,7 @@ abbrev pub is_blank : Statement → Bool
 is_blank statements.Blank = true
 is_blank other = false
 
+-- the line says nothing
 abbrev pub is_idle : Line → Bool
 is_idle line = holds is_blank line.statement && is_none line.label
 
@@ -66,6 +70,7 @@ pub record Survey : Type 0 where
   pub lines : ℕ
   pub rows : List Row
 
+-- nothing was read yet
 abbrev pub nothing : Survey
 nothing = record { spot = start; names = []; kinds = []; records = false; lines = 0; rows = [] }
 
@@ -105,6 +110,7 @@ with_kept survey number line = record survey {
   });
 }
 
+-- a survey with one line more
 abbrev pub with_line : Survey → (number : ℕ) → Line → Survey
 with_line survey number line = record {
   spot = after_line survey.spot line.statement;
@@ -115,6 +121,7 @@ with_line survey number line = record {
   rows = rows_with survey.rows line (row_of survey number line);
 }
 
+-- a survey with further lines
 abbrev pub with_lines : Survey → (lines : List (ℕ × List ℕ)) → Survey
 with_lines survey [] = survey
 with_lines survey (line ∷ lines) = with_lines (with_line survey line.0 (line_in line.1)) lines

@@ -80,7 +80,8 @@ impl Guest {
         requires steps { self.old.base.steps + 1 < 2 ^ 32 }
         requires rd { rd < 32 }
         requires apart { is_in_range DATA_START DATA_BYTES address ≡ false }
-        ensures state { self.new ≡ load_at (area_of address) LoadKind.Lw rd (units_of reserved) self.old }
+        ensures state { self.new
+            ≡ load_at (area_of address) LoadKind.Lw rd (units_of reserved) self.old }
         ensures act { result ≡ load_act (area_of address) LoadKind.Lw }
     {
         if TARY <= address && address < TARY + CODE_BYTES {
