@@ -1,8 +1,8 @@
 -- The faults of the instrumenter, in words: the fault and its offset in bytes, or its number.
 use Rattle.std.specs.Prelude.{ℕ, List, ◌++◌, codes}
 use Rattle.std.specs.Fmt.{decimal}
-use Rattle.cfi_items.specs.declared.fault.InstrFault.{InstrFault}
-use Rattle.cfi_items.specs.declared.fault.InstrFault.TheVariants.{Illegal, Reserved, Trap, BadLink, BadReloc, Function, Stray, NoKind, Switch, FallsThrough, TooLong, Memory}
+use Rattle.cfi_instr.specs.declared.fault.InstrFault.{InstrFault}
+use Rattle.cfi_instr.specs.declared.fault.InstrFault.TheVariants.{Illegal, Reserved, Trap, BadLink, BadReloc, Function, Stray, NoKind, Switch, FallsThrough, TooLong, Memory}
 
 -- want of memory is no refusal, and has a name for completeness alone
 abbrev pub instr_text : InstrFault → List ℕ

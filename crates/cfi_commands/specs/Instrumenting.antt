@@ -2,7 +2,7 @@
 use Rattle.std.specs.Prelude.{◌≡◌, ◌≢◌, ℕ, List}
 use Rattle.elf_write.specs.File.{bytes_of}
 use Rattle.cfi_aux.specs.declared.modules.Module.{Module}
-use Rattle.cfi_items.specs.declared.fault.InstrFault.TheVariants as faults
+use Rattle.cfi_instr.specs.declared.fault.InstrFault.TheVariants as faults
 use Rattle.cfi_instr.specs.Output.{IsInstrumented, IsFirstInstrFault}
 use Rattle.cfi_commands.specs.declared.refusal.Refusal.{Refusal}
 use Rattle.cfi_commands.specs.declared.refusal.Refusal.TheVariants.{Instr}

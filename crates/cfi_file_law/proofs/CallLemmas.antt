@@ -7,9 +7,9 @@ use Rattle.rv_insn.specs.declared.insn.LoadKind.TheVariants.{Lw}
 use Rattle.rv_insn.specs.InsnOf.{insn_of}
 use Rattle.rv_reloc.specs.Bytes.{word_at}
 use Rattle.cfi_unit.specs.Code.{UnitCode}
-use Rattle.cfi_items.specs.Words.{Words, words_by, read_words}
-use Rattle.cfi_items.specs.Fault.{input_by, IsInstrumentable}
-use Rattle.cfi_items.proofs.RowTests.{PassesAll, instrumentable}
+use Rattle.cfi_instr.specs.Words.{Words, words_by, read_words}
+use Rattle.cfi_instr.specs.Fault.{input_by, IsInstrumentable}
+use Rattle.cfi_instr.proofs.RowTests.{PassesAll, instrumentable}
 use Rattle.cfi_instr.specs.Sizes.{size_at, is_long}
 use Rattle.cfi_instr.specs.Reach.{IsEnough, IsLeast}
 use Rattle.cfi_instr.specs.Units.{units_at}

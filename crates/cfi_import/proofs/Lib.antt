@@ -1,3 +1,4 @@
+pub mod LimitLemmas
 pub mod StartLemmas
 pub mod FoundLemmas
 pub mod SizeLemmas

@@ -16,7 +16,7 @@ use Rattle.cfi_aux.specs.Records.{CanBeWritten, list_length}
 use Rattle.cfi_aux.specs.Sound.{IsSoundModule}
 use Rattle.cfi_aux.specs.declared.modules.Module.{Module}
 use Rattle.cfi_aux.specs.declared.records.Records.{Records}
-use Rattle.cfi_limits.proofs.LimitLemmas.{AreFew, few}
+use Rattle.cfi_import.proofs.LimitLemmas.{AreFew, few}
 use Rattle.cfi_import.specs.declared.start.Start.{Start}
 use Rattle.cfi_import.specs.Imports.{is_import, imports_of, names_of, place_of}
 use Rattle.cfi_import.specs.Start.{first_shared, start_of}

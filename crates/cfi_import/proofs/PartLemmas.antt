@@ -16,9 +16,9 @@ use Rattle.cfi_aux.specs.declared.modules.Module.{Module}
 use Rattle.cfi_aux.specs.declared.records.Function.{Function}
 use Rattle.cfi_aux.specs.declared.records.Kind.{Kind}
 use Rattle.cfi_aux.specs.declared.records.Records.{Records}
-use Rattle.cfi_limits.specs.declared.sizes.Sizes.{Sizes}
-use Rattle.cfi_limits.specs.Limits.{passed, module_sizes}
-use Rattle.cfi_limits.proofs.LimitLemmas.{AreFew, few}
+use Rattle.cfi_import.specs.declared.object_sizes.Sizes.{Sizes}
+use Rattle.cfi_import.specs.Limits.{passed, module_sizes}
+use Rattle.cfi_import.proofs.LimitLemmas.{AreFew, few}
 use Rattle.cfi_import.specs.declared.start.Start.{Start}
 use Rattle.cfi_import.specs.declared.start.TheConstants.{CELL_BYTES}
 use Rattle.cfi_import.specs.Imports.{imports_of, names_of, place_of}

@@ -1,3 +1,4 @@
+pub mod Limits
 pub mod Imports
 pub mod Start
 pub mod Stubs

@@ -1,6 +1,7 @@
-//! Stubs for the functions that a module calls and that may come later.
+//! Stubs for the functions that a module calls and that may come later, and the limits on one object.
 //!
-//! Stands on `cfi_limits`, `cfi_aux`, `cfi_type_table`, `cfi_values`, `elf_read`, `rv_insn` and `thiserror`. Proved:
+//! Stands on `cfi_word`, `cfi_aux`, `cfi_type_table`, `cfi_values`, `elf_read`, `rv_insn` and `thiserror`. Proved:
+//! `passed` answers the first limit that sizes pass, by `specs/Limits.antt`, and `sizes_of` how much a module has;
 //! `with_stubs` answers exactly the module of `specs/Stubbed.antt`, or the first limit on one object that this module
 //! passes; what it answers breaks no rule of modules. Only tested, by the cases of `cfi_cases`: that ample memory is
 //! enough, and words against an assembler. Open: when memory runs out.
@@ -9,6 +10,8 @@
 mod copies;
 mod fault;
 mod found;
+mod limit;
+mod object_sizes;
 mod records;
 mod relocs;
 mod sizes;
@@ -18,4 +21,6 @@ mod symbols;
 mod texts;
 
 pub use fault::StubFault;
+pub use limit::passed;
+pub use object_sizes::{Sizes, sizes_of};
 pub use stubbing::with_stubs;

@@ -1,7 +1,7 @@
 //! A module with stubs.
 
 ghost use Rattle.std.specs.Prelude.{◌≡◌, ◌++◌, ◌≤◌, ◌<◌, ◌^◌, ℕ, None, length, OnOk, IfOk, IfErr};
-ghost use Rattle.cfi_limits.specs.Limits.{passed, module_sizes};
+ghost use Rattle.cfi_import.specs.Limits.{passed, module_sizes};
 ghost use Rattle.cfi_aux.specs.Records.{CanBeWritten};
 ghost use Rattle.cfi_aux.specs.Sound.{IsSoundModule};
 ghost use Rattle.cfi_import.specs.Imports.{imports_of, names_of, place_of};
@@ -24,7 +24,7 @@ use crate::start::{Start, start_of};
 use crate::symbols::with_symbols;
 use crate::texts::{with_cells, with_texts};
 use cfi_aux::{Module, Records, write_records};
-use cfi_limits::{passed, sizes_of};
+use crate::{passed, sizes_of};
 use cfi_type_table::{TypeTable, write_types};
 use cfi_values::{Bytes, Items};
 use elf_read::{Name, Object, Relocs, Symbols};

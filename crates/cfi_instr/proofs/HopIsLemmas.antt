@@ -3,10 +3,10 @@ use Rattle.std.proofs.Common.{◌≡◌, ℕ, ◌+◌, ◌<◌, ℤ, Bool, false
 use Rattle.elf_read.specs.declared.object.Symbol.{Symbol}
 use Rattle.rv_insn.specs.declared.insn.Cond.{Cond}
 use Rattle.rv_insn.specs.declared.insn.Insn.TheVariants.{Branch}
-use Rattle.cfi_items.specs.Words.{Words, insn_at, count_of}
-use Rattle.cfi_items.specs.Items.{is_inner}
-use Rattle.cfi_items.specs.declared.target.Aim.{Aim}
-use Rattle.cfi_items.specs.Target.{aim_of_jump}
+use Rattle.cfi_instr.specs.Words.{Words, insn_at, count_of}
+use Rattle.cfi_instr.specs.Items.{is_inner}
+use Rattle.cfi_instr.specs.declared.target.Aim.{Aim}
+use Rattle.cfi_instr.specs.Target.{aim_of_jump}
 use Rattle.cfi_instr.specs.declared.hops.Hop.{Hop}
 use Rattle.cfi_instr.specs.Sizes.{is_long, size_at}
 use Rattle.cfi_instr.specs.Reach.{target_of, is_near, word_reaches, insn_reaches}

@@ -3,7 +3,7 @@ use Rattle.std.proofs.Common.{◌≡◌, ℕ, ◌+◌, ◌-◌, ◌*◌, ◌<◌
 use Rattle.std.proofs.lemmas.Bool.{cases_Bool, cases_lt, cases_eq, false≢true, false_from_ne_true, leb-true, leb-false, ltb-true}
 use Rattle.std.proofs.Math.ListN.{set, length-set}
 use Rattle.elf_read.specs.declared.object.Symbol.{Symbol}
-use Rattle.cfi_items.specs.Words.{Words, count_of}
+use Rattle.cfi_instr.specs.Words.{Words, count_of}
 use Rattle.cfi_instr.specs.declared.hops.Hop.{Hop}
 use Rattle.cfi_instr.specs.Sizes.{is_long, size_at, words_before, offsets_of}
 use Rattle.cfi_instr.specs.Reach.{is_near, word_reaches, IsEnough, IsWithin}

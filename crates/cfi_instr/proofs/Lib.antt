@@ -1,3 +1,15 @@
+pub mod TableLemmas
+pub mod JumpLemmas
+pub mod RelocLemmas
+pub mod DecideLemmas
+pub mod WordTests
+pub mod FunctionTests
+pub mod HomeLemmas
+pub mod LeadTests
+pub mod JumpTests
+pub mod RelocTests
+pub mod EndLemmas
+pub mod RowTests
 pub mod SizeLemmas
 pub mod ReachLemmas
 pub mod WideLemmas

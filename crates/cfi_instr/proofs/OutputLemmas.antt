@@ -18,9 +18,9 @@ use Rattle.cfi_aux.specs.Records.{CanBeWritten}
 use Rattle.cfi_aux.specs.Records as aux
 use Rattle.cfi_aux.specs.Cells.{has_cell, have_cells}
 use Rattle.cfi_aux.proofs.HaveCells.{cells-map}
-use Rattle.cfi_items.specs.Words.{Words, AreInsnsInRange, read_words, count_of}
-use Rattle.cfi_items.specs.Fault.{input_of, IsInstrumentable}
-use Rattle.cfi_items.proofs.RowTests.{PassesWords, good-words}
+use Rattle.cfi_instr.specs.Words.{Words, AreInsnsInRange, read_words, count_of}
+use Rattle.cfi_instr.specs.Fault.{input_of, IsInstrumentable}
+use Rattle.cfi_instr.proofs.RowTests.{PassesWords, good-words}
 use Rattle.cfi_instr.specs.declared.sizes.TheConstants.{MAX_WORDS}
 use Rattle.cfi_instr.specs.Sizes.{moved, words_before, offsets_of, AreSmall}
 use Rattle.cfi_instr.specs.Reach.{IsEnough, IsLeast}

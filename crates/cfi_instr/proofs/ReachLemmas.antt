@@ -4,10 +4,10 @@ use Rattle.std.proofs.lemmas.Bool.{cases_lt, and_parts, and_from, leb-true, le-l
 use Rattle.elf_read.specs.declared.object.Symbol.{Symbol}
 use Rattle.rv_insn.specs.declared.insn.Insn.{Insn}
 use Rattle.rv_insn.specs.declared.insn.Insn.TheVariants as insns
-use Rattle.cfi_items.specs.declared.target.Aim.{Aim}
-use Rattle.cfi_items.specs.declared.target.Aim.TheVariants as aims
-use Rattle.cfi_items.specs.Words.{Words, insn_at, count_of}
-use Rattle.cfi_items.specs.Target.{aim_of_jump}
+use Rattle.cfi_instr.specs.declared.target.Aim.{Aim}
+use Rattle.cfi_instr.specs.declared.target.Aim.TheVariants as aims
+use Rattle.cfi_instr.specs.Words.{Words, insn_at, count_of}
+use Rattle.cfi_instr.specs.Target.{aim_of_jump}
 use Rattle.cfi_instr.specs.Sizes.{size_at, words_before, offsets_of}
 use Rattle.cfi_instr.specs.Reach.{is_near, reaches, insn_reaches, word_reaches, IsWithin}
 use Rattle.cfi_instr.proofs.SizeLemmas.{total-grows, place-grows, place-part, offset-read, offset-past}

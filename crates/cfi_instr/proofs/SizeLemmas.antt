@@ -6,8 +6,8 @@ use Rattle.std.proofs.lemmas.List.FromFn.{get_or-map-range_with_len, length-map-
 use Rattle.elf_read.specs.Places.{total_of}
 use Rattle.rv_insn.specs.declared.insn.Insn.{Insn}
 use Rattle.rv_insn.specs.declared.insn.Insn.TheVariants as insns
-use Rattle.cfi_items.specs.Words.{Words, insn_at, count_of}
-use Rattle.cfi_items.specs.Items.{is_inner}
+use Rattle.cfi_instr.specs.Words.{Words, insn_at, count_of}
+use Rattle.cfi_instr.specs.Items.{is_inner}
 use Rattle.cfi_instr.specs.declared.sizes.TheConstants.{MAX_WORDS}
 use Rattle.cfi_instr.specs.Sizes.{is_long, item_size, size_by, size_at, words_before, offset_of, offsets_of, AreSmall}
 use Rattle.cfi_instr.specs.Reach.{IsWithin}

@@ -10,17 +10,17 @@ use Rattle.rv_insn.specs.Word.{IsSigned, IsEven}
 use Rattle.rv_insn.specs.Insn.{InRange}
 use Rattle.cfi_word.specs.declared.sizes.TheConstants.{SLOTS}
 use Rattle.cfi_unit.specs.Unit.{IsUnit}
-use Rattle.cfi_items.specs.declared.target.Aim.{Aim}
-use Rattle.cfi_items.specs.declared.target.Aim.TheVariants as aims
-use Rattle.cfi_items.specs.Words.{Words, AreInsnsInRange, insn_at, reloc_on, count_of}
-use Rattle.cfi_items.specs.Insns.{is_jalr, is_branch}
+use Rattle.cfi_instr.specs.declared.target.Aim.{Aim}
+use Rattle.cfi_instr.specs.declared.target.Aim.TheVariants as aims
+use Rattle.cfi_instr.specs.Words.{Words, AreInsnsInRange, insn_at, reloc_on, count_of}
+use Rattle.cfi_instr.specs.Insns.{is_jalr, is_branch}
 use Rattle.cfi_values.specs.Some.{holds}
 use Rattle.cfi_unit.specs.Free.{names_reserved}
-use Rattle.cfi_items.specs.inner.Insns.{is_trap}
-use Rattle.cfi_items.specs.Items.{is_inner, is_pair, is_item, is_indirect}
-use Rattle.cfi_items.specs.Target.{aim_of_jump}
-use Rattle.cfi_items.specs.Jumps.{ordinal_of}
-use Rattle.cfi_items.proofs.RowTests.{PassesWords}
+use Rattle.cfi_instr.specs.inner.Insns.{is_trap}
+use Rattle.cfi_instr.specs.Items.{is_inner, is_pair, is_item, is_indirect}
+use Rattle.cfi_instr.specs.Target.{aim_of_jump}
+use Rattle.cfi_instr.specs.Jumps.{ordinal_of}
+use Rattle.cfi_instr.proofs.RowTests.{PassesWords}
 use Rattle.cfi_instr.specs.declared.sizes.TheConstants.{MAX_WORDS}
 use Rattle.cfi_instr.specs.Sizes.{is_long, size_by, size_at, words_before, offsets_of, AreSmall}
 use Rattle.cfi_instr.specs.Reach.{target_of, is_near, insn_reaches, IsEnough}

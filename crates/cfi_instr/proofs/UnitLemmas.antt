@@ -8,8 +8,8 @@ use Rattle.rv_insn.specs.Insn.{InRange}
 use Rattle.cfi_word.specs.declared.sizes.TheConstants.{SLOTS}
 use Rattle.cfi_unit.specs.Unit.{IsFree, IsUnit}
 use Rattle.cfi_unit.specs.Free.{is_reserved, names_reserved}
-use Rattle.cfi_items.specs.inner.Insns.{is_trap}
-use Rattle.cfi_items.specs.Insns.{is_branch}
+use Rattle.cfi_instr.specs.inner.Insns.{is_trap}
+use Rattle.cfi_instr.specs.Insns.{is_branch}
 use Rattle.cfi_instr.specs.Units.{distance, unit_of, over}
 
 free-of : (r : ℕ) → is_reserved r ≡ false → IsFree r

@@ -5,9 +5,9 @@ use Rattle.std.proofs.Math.ListN.{set, length-set}
 use Rattle.std.proofs.lemmas.List.{get_or_past, set-get_or, get_or-replicate, length-replicate}
 use Rattle.std.proofs.lemmas.List.Sums.{sum_by-set}
 use Rattle.elf_read.specs.declared.object.Symbol.{Symbol}
-use Rattle.cfi_items.specs.Words.{Words, count_of}
-use Rattle.cfi_items.specs.declared.fault.InstrFault.{InstrFault}
-use Rattle.cfi_items.specs.declared.fault.InstrFault.TheVariants as faults
+use Rattle.cfi_instr.specs.Words.{Words, count_of}
+use Rattle.cfi_instr.specs.declared.fault.InstrFault.{InstrFault}
+use Rattle.cfi_instr.specs.declared.fault.InstrFault.TheVariants as faults
 use Rattle.cfi_instr.specs.Sizes.{is_long, offsets_of, IsOver}
 use Rattle.cfi_instr.specs.Reach.{word_reaches, IsEnough, IsWithin, shorts, IsPassed}
 use Rattle.cfi_instr.proofs.SizeLemmas.{place-grows}

@@ -1,3 +1,12 @@
+pub mod Words
+pub mod Insns
+pub mod Items
+pub mod Target
+pub mod Functions
+pub mod Relocs
+pub mod Leads
+pub mod Jumps
+pub mod Fault
 pub mod Sizes
 pub mod Reach
 pub mod Units

@@ -12,9 +12,9 @@ use Rattle.elf_read.specs.Relocation.{is_of_pair}
 use Rattle.cfi_aux.specs.declared.records.Function.{Function}
 use Rattle.cfi_aux.specs.declared.records.Kind.{Kind}
 use Rattle.cfi_aux.specs.declared.records.Kind.TheVariants as kinds
-use Rattle.cfi_items.specs.Words.{Words}
+use Rattle.cfi_instr.specs.Words.{Words}
 use Rattle.cfi_aux.specs.Extent.{byte_end}
-use Rattle.cfi_items.specs.Target.{offset_from, named_symbol}
+use Rattle.cfi_instr.specs.Target.{offset_from, named_symbol}
 use Rattle.cfi_instr.specs.Sizes.{is_long, moved}
 use Rattle.cfi_instr.specs.Units.{distance}
 

@@ -8,10 +8,10 @@ use Rattle.cfi_type_table.specs.Spelling as types
 use Rattle.cfi_aux.specs.declared.modules.Module.{Module}
 use Rattle.cfi_aux.specs.declared.records.Records.{Records}
 use Rattle.cfi_aux.specs.Records as records
-use Rattle.cfi_items.specs.declared.fault.InstrFault.{InstrFault}
-use Rattle.cfi_items.specs.declared.fault.InstrFault.TheVariants as faults
-use Rattle.cfi_items.specs.Words.{read_words, count_of}
-use Rattle.cfi_items.specs.Fault.{input_of, IsInstrumentable, IsFirstFlaw}
+use Rattle.cfi_instr.specs.declared.fault.InstrFault.{InstrFault}
+use Rattle.cfi_instr.specs.declared.fault.InstrFault.TheVariants as faults
+use Rattle.cfi_instr.specs.Words.{read_words, count_of}
+use Rattle.cfi_instr.specs.Fault.{input_of, IsInstrumentable, IsFirstFlaw}
 use Rattle.cfi_instr.specs.declared.sizes.TheConstants.{MAX_WORDS}
 use Rattle.cfi_instr.specs.Sizes.{words_before, offsets_of}
 use Rattle.cfi_instr.specs.Reach.{IsLeast, IsEnough}

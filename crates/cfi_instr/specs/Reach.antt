@@ -5,12 +5,12 @@ use Rattle.std.specs.List.{sum_by}
 use Rattle.elf_read.specs.declared.object.Symbol.{Symbol}
 use Rattle.rv_insn.specs.declared.insn.Insn.{Insn}
 use Rattle.rv_insn.specs.declared.insn.Insn.TheVariants as insns
-use Rattle.cfi_items.specs.declared.target.Aim.{Aim}
-use Rattle.cfi_items.specs.declared.target.Aim.TheVariants as aims
-use Rattle.cfi_items.specs.declared.fault.InstrFault.{InstrFault}
-use Rattle.cfi_items.specs.declared.fault.InstrFault.TheVariants as faults
-use Rattle.cfi_items.specs.Words.{Words, insn_at, count_of}
-use Rattle.cfi_items.specs.Target.{aim_of_jump}
+use Rattle.cfi_instr.specs.declared.target.Aim.{Aim}
+use Rattle.cfi_instr.specs.declared.target.Aim.TheVariants as aims
+use Rattle.cfi_instr.specs.declared.fault.InstrFault.{InstrFault}
+use Rattle.cfi_instr.specs.declared.fault.InstrFault.TheVariants as faults
+use Rattle.cfi_instr.specs.Words.{Words, insn_at, count_of}
+use Rattle.cfi_instr.specs.Target.{aim_of_jump}
 use Rattle.cfi_instr.specs.declared.sizes.TheConstants.{REACH_BACK, REACH_ON, MAX_WORDS}
 use Rattle.cfi_instr.specs.Sizes.{is_long, words_before, offsets_of}
 

@@ -5,10 +5,10 @@ use Rattle.std.specs.List.{range_with_len}
 use Rattle.elf_read.specs.Places.{total_of}
 use Rattle.rv_insn.specs.declared.insn.Insn.{Insn}
 use Rattle.rv_insn.specs.declared.insn.Insn.TheVariants as insns
-use Rattle.cfi_items.specs.declared.fault.InstrFault.{InstrFault}
-use Rattle.cfi_items.specs.declared.fault.InstrFault.TheVariants as faults
-use Rattle.cfi_items.specs.Words.{Words, insn_at, count_of}
-use Rattle.cfi_items.specs.Items.{is_inner, item_of}
+use Rattle.cfi_instr.specs.declared.fault.InstrFault.{InstrFault}
+use Rattle.cfi_instr.specs.declared.fault.InstrFault.TheVariants as faults
+use Rattle.cfi_instr.specs.Words.{Words, insn_at, count_of}
+use Rattle.cfi_instr.specs.Items.{is_inner, item_of}
 use Rattle.cfi_instr.specs.declared.sizes.TheConstants.{ACCESS_WORDS, CHECK_WORDS, LONG_WORDS, MAX_WORDS, MAX_BYTES}
 
 -- the branch at the word is long

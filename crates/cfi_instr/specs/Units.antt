@@ -10,12 +10,12 @@ use Rattle.rv_insn.specs.declared.insn.Insn.TheVariants as insns
 use Rattle.cfi_unit.specs.declared.unit.Unit.{Unit as CodeUnit}
 use Rattle.cfi_unit.specs.declared.unit.Unit.TheVariants as units
 use Rattle.cfi_unit.specs.Unit.{IsUnit}
-use Rattle.cfi_items.specs.Words.{Words, insn_at, reloc_on, count_of}
-use Rattle.cfi_items.specs.Insns.{is_linked, is_branch}
+use Rattle.cfi_instr.specs.Words.{Words, insn_at, reloc_on, count_of}
+use Rattle.cfi_instr.specs.Insns.{is_linked, is_branch}
 use Rattle.cfi_values.specs.Some.{holds}
-use Rattle.cfi_items.specs.Items.{is_inner, is_pair}
-use Rattle.cfi_items.specs.Target.{aim_of_jump}
-use Rattle.cfi_items.specs.Jumps.{ordinal_of}
+use Rattle.cfi_instr.specs.Items.{is_inner, is_pair}
+use Rattle.cfi_instr.specs.Target.{aim_of_jump}
+use Rattle.cfi_instr.specs.Jumps.{ordinal_of}
 use Rattle.cfi_instr.specs.Sizes.{is_long}
 use Rattle.cfi_instr.specs.Reach.{target_of}
 

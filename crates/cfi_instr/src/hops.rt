@@ -1,14 +1,14 @@
 //! Branches, and how far each is from being out of its reach.
 
 ghost use Rattle.std.specs.Prelude.{◌≡◌, ◌+◌, ◌-◌, ◌*◌, ◌/◌, ◌<◌, ◌^◌, ℕ, List, All, length, slice_index, false, Some, IfOk, IfSome};
-ghost use Rattle.cfi_items.specs.Words.{count_of, insn_at};
-ghost use Rattle.cfi_items.specs.Items.{is_inner};
+ghost use Rattle.cfi_instr.specs.Words.{count_of, insn_at};
+ghost use Rattle.cfi_instr.specs.Items.{is_inner};
 ghost use Rattle.cfi_instr.specs.Sizes.{AreSmall};
 ghost use Rattle.cfi_instr.specs.Reach.{target_of};
 ghost use Rattle.cfi_instr.specs.inner.Hops.{is_over, after_growth, IsHop, HasLeft, IsMeasured};
 
 use crate::sizes::{REACH_BACK, REACH_ON, offset_at};
-use cfi_items::{Aim, Source};
+use crate::{Aim, Source};
 use elf_read::Symbol;
 use rv_insn::Insn;
 use std::alloc::{AllocError, Global};

@@ -1,13 +1,13 @@
 //! Where symbols and relocations go.
 
 ghost use Rattle.std.specs.Prelude.{◌≡◌, map, IfOk};
-ghost use Rattle.cfi_items.specs.Target.{named_symbol};
+ghost use Rattle.cfi_instr.specs.Target.{named_symbol};
 ghost use Rattle.cfi_instr.specs.Sizes.{AreSmall};
 ghost use Rattle.cfi_instr.specs.Moves.{moved_value, moved_symbol, addend_to, addend_in, addend_by, is_of_long, kind_in, offset_in, moved_reloc};
 
 use crate::sizes::{is_long, moved};
 use crate::units::distance;
-use cfi_items::{Source, is_of_text, named_symbol, offset_from};
+use crate::{Source, is_of_text, named_symbol, offset_from};
 use elf_read::relocation::{BRANCH, JAL, LO12_I, LO12_S, PCREL_LO12_I, PCREL_LO12_S, is_of_pair};
 use elf_read::{Name, Place, Reloc, Symbol};
 use std::alloc::{AllocError, Global};

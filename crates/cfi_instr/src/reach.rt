@@ -2,14 +2,14 @@
 
 ghost use Rattle.std.specs.Prelude.{◌≡◌, ◌*◌, ◌<◌, ◌≤◌, ◌^◌, ℕ, List, Bool, not, ◌||◌, ◌&&◌, length, slice_set, IfOk, IfErr};
 ghost use Rattle.std.specs.Bool.{OnTrue, OnFalse};
-ghost use Rattle.cfi_items.specs.Words.{count_of};
+ghost use Rattle.cfi_instr.specs.Words.{count_of};
 ghost use Rattle.cfi_instr.specs.declared.sizes.TheConstants.{MAX_WORDS};
 ghost use Rattle.cfi_instr.specs.Sizes.{is_long, words_before, offsets_of, AreSmall};
 ghost use Rattle.cfi_instr.specs.Reach.{target_of, is_near, reaches, branch_reaches, word_reaches, IsEnough, IsWithin, IsLeast, IsPassed, shorts};
 
 use crate::sizes::{REACH_BACK, REACH_ON, is_long, offset_at, offsets_of};
 use crate::stretch::stretch;
-use cfi_items::{Aim, InstrFault, Source};
+use crate::{Aim, InstrFault, Source};
 use elf_read::Symbol;
 use rv_insn::Insn;
 use std::alloc::Global;

@@ -6,7 +6,7 @@ ghost use Rattle.cfi_instr.specs.Sizes.{moved};
 
 use crate::sizes::moved;
 use cfi_aux::{Function, Kind};
-use cfi_items::Source;
+use crate::Source;
 use cfi_values::Items;
 use elf_read::Name;
 use std::alloc::{AllocError, Global};

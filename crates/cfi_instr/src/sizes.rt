@@ -1,11 +1,11 @@
 //! Where the units of a module's items go.
 
 ghost use Rattle.std.specs.Prelude.{◌≡◌, ◌*◌, ◌<◌, ◌≤◌, ◌^◌, slice_index, IfOk, IfErr};
-ghost use Rattle.cfi_items.specs.Words.{count_of};
+ghost use Rattle.cfi_instr.specs.Words.{count_of};
 ghost use Rattle.cfi_instr.specs.declared.sizes.TheConstants.{CHECK_WORDS, MAX_WORDS};
 ghost use Rattle.cfi_instr.specs.Sizes.{is_long, item_size, size_at, words_before, moved, offsets_of, AreSmall, IsOver};
 
-use cfi_items::{InstrFault, Source};
+use crate::{InstrFault, Source};
 use rv_insn::Insn;
 use std::alloc::Global;
 

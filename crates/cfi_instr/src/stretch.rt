@@ -2,7 +2,7 @@
 
 ghost use Rattle.std.specs.Prelude.{◌≡◌, ◌*◌, ◌<◌, ◌^◌, ℕ, List, Bool, length, get_or, IfOk, OnOk};
 ghost use Rattle.elf_read.specs.declared.object.Symbol.{Symbol};
-ghost use Rattle.cfi_items.specs.Words.{Words, count_of};
+ghost use Rattle.cfi_instr.specs.Words.{Words, count_of};
 ghost use Rattle.cfi_instr.specs.declared.hops.Hop.{Hop};
 ghost use Rattle.cfi_instr.specs.Sizes.{offsets_of, AreSmall};
 ghost use Rattle.cfi_instr.specs.Reach.{IsEnough, IsWithin};
@@ -10,7 +10,7 @@ ghost use Rattle.cfi_instr.specs.inner.Hops.{AreReady, StaysOrLoses};
 
 use crate::hops::{Hop, after_growth, hops_of};
 use crate::sizes::{LONG_WORDS, MAX_WORDS, REACH_BACK};
-use cfi_items::Source;
+use crate::Source;
 use elf_read::Symbol;
 use std::alloc::{AllocError, Global};
 

@@ -3,13 +3,13 @@
 ghost use Rattle.std.specs.Prelude.{◌≡◌, ◌*◌, ◌<◌, ◌^◌, ◌++◌, OnOk, IfOk, Some};
 ghost use Rattle.std.specs.List.{flat_map};
 ghost use Rattle.cfi_unit.specs.Unit.{words_of};
-ghost use Rattle.cfi_items.specs.Words.{count_of};
-ghost use Rattle.cfi_items.specs.Jumps.{ordinal_of};
+ghost use Rattle.cfi_instr.specs.Words.{count_of};
+ghost use Rattle.cfi_instr.specs.Jumps.{ordinal_of};
 ghost use Rattle.cfi_instr.specs.Sizes.{AreSmall};
 ghost use Rattle.cfi_instr.specs.Units.{units_at, units_of, insn_units, AreUnits, AllSpell};
 
 use crate::units::{is_wide, long_jump, over, pair_unit, short_unit};
-use cfi_items::Source;
+use crate::Source;
 use cfi_unit::spell;
 use elf_read::Symbol;
 use rv_insn::Insn;

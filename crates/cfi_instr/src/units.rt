@@ -1,14 +1,14 @@
 //! The units that the items of a text become.
 
 ghost use Rattle.std.specs.Prelude.{◌≡◌, ◌*◌, ◌<◌, ◌^◌};
-ghost use Rattle.cfi_items.specs.Jumps.{ordinal_of};
+ghost use Rattle.cfi_instr.specs.Jumps.{ordinal_of};
 ghost use Rattle.cfi_instr.specs.Sizes.{AreSmall};
 ghost use Rattle.cfi_instr.specs.Units.{inverse, distance, displacement_from, unit_of, off_of, short_unit, over, long_jump, is_wide, pair_unit};
 
 use crate::reach::target_of;
 use crate::sizes::{is_long, offset_at};
-use cfi_items::Source;
-use cfi_items::insns::{is_branch, is_linked};
+use crate::Source;
+use crate::insns::{is_branch, is_linked};
 use cfi_unit::Unit;
 use elf_read::Symbol;
 use rv_insn::{Cond, Insn};

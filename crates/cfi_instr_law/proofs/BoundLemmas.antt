@@ -4,15 +4,15 @@ use Rattle.std.specs.List.{slice_get}
 use Rattle.std.proofs.lemmas.Bool.{cases_Bool, cases_lt, and_parts, or_cases, not-true, not-false, eqb-true, eqb-false, ne_eqb, ltb-true, leb-true}
 use Rattle.std.proofs.lemmas.Option.{slice_get-get_or, slice_get_past}
 use Rattle.cfi_aux.specs.declared.records.Function.{Function}
-use Rattle.cfi_items.specs.Words.{Words, count_of}
-use Rattle.cfi_items.specs.Insns.{is_jalr}
-use Rattle.cfi_items.specs.Items.{is_inner, is_item, item_of}
-use Rattle.cfi_items.specs.inner.Items.{is_item_at, is_bound_at}
+use Rattle.cfi_instr.specs.Words.{Words, count_of}
+use Rattle.cfi_instr.specs.Insns.{is_jalr}
+use Rattle.cfi_instr.specs.Items.{is_inner, is_item, item_of}
+use Rattle.cfi_instr.specs.inner.Items.{is_item_at, is_bound_at}
 use Rattle.cfi_aux.specs.Extent.{byte_end}
-use Rattle.cfi_items.specs.Functions.{byte_end_in, byte_end_before}
-use Rattle.cfi_items.specs.inner.Functions.{is_code, has_code, is_well_formed, is_formed_at, is_malformed}
-use Rattle.cfi_items.proofs.FunctionTests.{range-none}
-use Rattle.cfi_items.proofs.WordTests.{holds-within}
+use Rattle.cfi_instr.specs.Functions.{byte_end_in, byte_end_before}
+use Rattle.cfi_instr.specs.inner.Functions.{is_code, has_code, is_well_formed, is_formed_at, is_malformed}
+use Rattle.cfi_instr.proofs.FunctionTests.{range-none}
+use Rattle.cfi_instr.proofs.WordTests.{holds-within}
 use Rattle.cfi_instr.specs.Sizes.{words_before, offsets_of, moved}
 use Rattle.cfi_instr.proofs.SizeLemmas.{offset-read}
 use Rattle.cfi_instr_law.proofs.ItemLemmas.{inner-parts}

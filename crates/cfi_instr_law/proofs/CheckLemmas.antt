@@ -7,11 +7,11 @@ use Rattle.std.proofs.lemmas.Option.{none-some, same_Some, slice_get_within}
 use Rattle.elf_read.specs.declared.object.Symbol.{Symbol}
 use Rattle.rv_insn.specs.declared.insn.Insn.{Insn}
 use Rattle.rv_insn.specs.declared.insn.Insn.TheVariants as insns
-use Rattle.cfi_items.specs.Words.{Words, insn_at, count_of}
-use Rattle.cfi_items.specs.Insns.{is_auipc, is_jalr, is_linked}
+use Rattle.cfi_instr.specs.Words.{Words, insn_at, count_of}
+use Rattle.cfi_instr.specs.Insns.{is_auipc, is_jalr, is_linked}
 use Rattle.cfi_values.specs.Some.{holds}
-use Rattle.cfi_items.specs.Items.{is_inner, is_pair, is_item, is_indirect}
-use Rattle.cfi_items.specs.Jumps.{ordinal_of}
+use Rattle.cfi_instr.specs.Items.{is_inner, is_pair, is_item, is_indirect}
+use Rattle.cfi_instr.specs.Jumps.{ordinal_of}
 use Rattle.cfi_instr.specs.Sizes.{is_long, words_before}
 use Rattle.cfi_instr.specs.Units.{insn_units, units_at}
 use Rattle.cfi_verify.specs.declared.checks.CheckSpot.{CheckSpot}

@@ -11,15 +11,15 @@ use Rattle.cfi_aux.specs.declared.modules.Module.{Module}
 use Rattle.cfi_aux.specs.declared.placed.Placed.{Placed}
 use Rattle.cfi_aux.specs.declared.placed.PlacedFunction.{PlacedFunction}
 use Rattle.cfi_aux.specs.declared.records.Function.{Function}
-use Rattle.cfi_items.specs.Words.{Words, insn_at, read_words, count_of}
-use Rattle.cfi_items.specs.Insns.{is_auipc, is_linked, is_unlinked}
+use Rattle.cfi_instr.specs.Words.{Words, insn_at, read_words, count_of}
+use Rattle.cfi_instr.specs.Insns.{is_auipc, is_linked, is_unlinked}
 use Rattle.cfi_values.specs.Some.{holds}
-use Rattle.cfi_items.specs.Items.{is_inner, is_pair, item_of}
+use Rattle.cfi_instr.specs.Items.{is_inner, is_pair, item_of}
 use Rattle.cfi_aux.specs.Extent.{byte_end, end_of}
-use Rattle.cfi_items.specs.Functions.{byte_end_before}
-use Rattle.cfi_items.specs.inner.Functions.{runs_off_at}
-use Rattle.cfi_items.proofs.WordTests.{holds-within}
-use Rattle.cfi_items.proofs.RelocTests.{item-below}
+use Rattle.cfi_instr.specs.Functions.{byte_end_before}
+use Rattle.cfi_instr.specs.inner.Functions.{runs_off_at}
+use Rattle.cfi_instr.proofs.WordTests.{holds-within}
+use Rattle.cfi_instr.proofs.RelocTests.{item-below}
 use Rattle.cfi_instr.specs.Sizes.{is_long, words_before, offsets_of}
 use Rattle.cfi_instr.specs.Units.{insn_units, units_at}
 use Rattle.elf_read.specs.Lists.{Each}

@@ -9,9 +9,9 @@ use Rattle.rv_reloc.specs.Bytes.{word_at}
 use Rattle.cfi_unit.specs.declared.unit.Unit.{Unit as CodeUnit}
 use Rattle.cfi_unit.specs.declared.unit.Unit.TheVariants as units
 use Rattle.cfi_type_table.specs.Kind.{is_callable}
-use Rattle.cfi_items.specs.Words.{Words, words_by, read_words}
-use Rattle.cfi_items.specs.Fault.{input_by, IsInstrumentable}
-use Rattle.cfi_items.proofs.RowTests.{PassesAll, instrumentable}
+use Rattle.cfi_instr.specs.Words.{Words, words_by, read_words}
+use Rattle.cfi_instr.specs.Fault.{input_by, IsInstrumentable}
+use Rattle.cfi_instr.proofs.RowTests.{PassesAll, instrumentable}
 use Rattle.cfi_instr.specs.Sizes.{size_at, is_long}
 use Rattle.cfi_instr.specs.Reach.{IsEnough, IsLeast}
 use Rattle.cfi_instr.specs.Units.{units_at}

@@ -8,12 +8,12 @@ use Rattle.elf_read.specs.declared.object.Area.TheVariants as areas
 use Rattle.elf_read.specs.declared.object.Reloc.{Reloc}
 use Rattle.elf_read.specs.declared.object.Symbol.{Symbol}
 use Rattle.cfi_aux.specs.declared.modules.Module.{Module}
-use Rattle.cfi_items.specs.Words.{Words, is_of_text, read_words, count_of}
-use Rattle.cfi_items.specs.Items.{is_inner, item_of}
-use Rattle.cfi_items.specs.Target.{named_symbol}
-use Rattle.cfi_items.specs.inner.Functions.{is_covered}
-use Rattle.cfi_items.specs.Fault.{input_of}
-use Rattle.cfi_items.proofs.RowTests.{PassesAll}
+use Rattle.cfi_instr.specs.Words.{Words, is_of_text, read_words, count_of}
+use Rattle.cfi_instr.specs.Items.{is_inner, item_of}
+use Rattle.cfi_instr.specs.Target.{named_symbol}
+use Rattle.cfi_instr.specs.inner.Functions.{is_covered}
+use Rattle.cfi_instr.specs.Fault.{input_of}
+use Rattle.cfi_instr.proofs.RowTests.{PassesAll}
 use Rattle.cfi_instr.specs.Sizes.{size_at, words_before, offsets_of}
 use Rattle.cfi_instr.specs.Moves.{is_of_long, addend_by, offset_in, moved_by, moved_reloc}
 use Rattle.cfi_instr.proofs.SizeLemmas.{total-grows}

@@ -13,11 +13,11 @@ use Rattle.cfi_aux.specs.declared.placed.Placed.{Placed}
 use Rattle.cfi_aux.specs.declared.records.Function.{Function}
 use Rattle.cfi_aux.specs.declared.records.Kind.{Kind}
 use Rattle.cfi_aux.specs.declared.records.Records.{Records}
-use Rattle.cfi_items.specs.Words.{Words, read_words, count_of}
-use Rattle.cfi_items.specs.Items.{is_inner}
-use Rattle.cfi_items.specs.inner.Functions.{is_covered}
-use Rattle.cfi_items.specs.Fault.{input_of}
-use Rattle.cfi_items.proofs.RowTests.{PassesAll, passes}
+use Rattle.cfi_instr.specs.Words.{Words, read_words, count_of}
+use Rattle.cfi_instr.specs.Items.{is_inner}
+use Rattle.cfi_instr.specs.inner.Functions.{is_covered}
+use Rattle.cfi_instr.specs.Fault.{input_of}
+use Rattle.cfi_instr.proofs.RowTests.{PassesAll, passes}
 use Rattle.cfi_instr.specs.Sizes.{size_at, words_before, offsets_of}
 use Rattle.cfi_instr.specs.Units.{units_of}
 use Rattle.cfi_instr.specs.Moves.{moved_function, moved_kind, moved_reloc}

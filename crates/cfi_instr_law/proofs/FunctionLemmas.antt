@@ -11,10 +11,10 @@ use Rattle.cfi_aux.specs.declared.modules.Module.{Module}
 use Rattle.cfi_aux.specs.declared.placed.Placed.{Placed}
 use Rattle.cfi_aux.specs.declared.placed.PlacedFunction.{PlacedFunction}
 use Rattle.cfi_aux.specs.declared.records.Function.{Function}
-use Rattle.cfi_items.specs.Words.{Words, read_words, count_of}
-use Rattle.cfi_items.specs.Items.{is_inner}
+use Rattle.cfi_instr.specs.Words.{Words, read_words, count_of}
+use Rattle.cfi_instr.specs.Items.{is_inner}
 use Rattle.cfi_aux.specs.Extent.{byte_end, end_of}
-use Rattle.cfi_items.specs.Functions.{byte_end_before}
+use Rattle.cfi_instr.specs.Functions.{byte_end_before}
 use Rattle.cfi_instr.specs.Sizes.{size_at, words_before, offsets_of}
 use Rattle.cfi_instr.specs.Moves.{moved_function}
 use Rattle.cfi_instr.proofs.SizeLemmas.{total-grows}

@@ -12,15 +12,15 @@ use Rattle.cfi_unit.specs.declared.unit.Unit.TheVariants as units
 use Rattle.cfi_aux.specs.declared.modules.Module.{Module}
 use Rattle.cfi_aux.specs.declared.placed.Placed.{Placed}
 use Rattle.cfi_aux.specs.declared.records.Function.{Function}
-use Rattle.cfi_items.specs.Words.{Words, insn_at, read_words, count_of}
-use Rattle.cfi_items.specs.Insns.{is_auipc}
+use Rattle.cfi_instr.specs.Words.{Words, insn_at, read_words, count_of}
+use Rattle.cfi_instr.specs.Insns.{is_auipc}
 use Rattle.cfi_values.specs.Some.{holds}
-use Rattle.cfi_items.specs.inner.Insns.{is_nop}
-use Rattle.cfi_items.specs.Items.{is_inner, is_item}
+use Rattle.cfi_instr.specs.inner.Insns.{is_nop}
+use Rattle.cfi_instr.specs.Items.{is_inner, is_item}
 use Rattle.cfi_aux.specs.Extent.{byte_end}
-use Rattle.cfi_items.specs.inner.Functions.{covers, is_covered, is_code, has_code}
-use Rattle.cfi_items.specs.Functions.{byte_end_before}
-use Rattle.cfi_items.proofs.WordTests.{nop-is}
+use Rattle.cfi_instr.specs.inner.Functions.{covers, is_covered, is_code, has_code}
+use Rattle.cfi_instr.specs.Functions.{byte_end_before}
+use Rattle.cfi_instr.proofs.WordTests.{nop-is}
 use Rattle.cfi_instr.specs.Sizes.{is_long, size_at, words_before, offsets_of}
 use Rattle.cfi_instr.specs.Units.{insn_units, units_at}
 use Rattle.cfi_instr.proofs.SizeLemmas.{total-grows}

@@ -11,11 +11,11 @@ use Rattle.rv_insn.specs.declared.insn.Insn.TheVariants as insns
 use Rattle.cfi_unit.specs.declared.unit.Unit.{Unit as CodeUnit}
 use Rattle.cfi_unit.specs.Unit.{size_of}
 use Rattle.cfi_unit.proofs.UnitLemmas.{size_pos}
-use Rattle.cfi_items.specs.Words.{Words, insn_at}
-use Rattle.cfi_items.specs.Insns.{is_auipc, is_jalr, is_branch}
+use Rattle.cfi_instr.specs.Words.{Words, insn_at}
+use Rattle.cfi_instr.specs.Insns.{is_auipc, is_jalr, is_branch}
 use Rattle.cfi_values.specs.Some.{holds}
-use Rattle.cfi_items.specs.Items.{is_inner, is_pair, item_of}
-use Rattle.cfi_items.specs.inner.Flaws.{is_illegal_at}
+use Rattle.cfi_instr.specs.Items.{is_inner, is_pair, item_of}
+use Rattle.cfi_instr.specs.inner.Flaws.{is_illegal_at}
 use Rattle.cfi_instr.specs.Sizes.{is_long, size_by, size_at, words_before}
 use Rattle.cfi_instr.specs.Units.{is_wide, insn_units, units_at}
 use Rattle.cfi_instr.proofs.SizeLemmas.{place-more}

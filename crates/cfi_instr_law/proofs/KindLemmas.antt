@@ -10,13 +10,13 @@ use Rattle.cfi_aux.specs.declared.modules.Module.{Module}
 use Rattle.cfi_aux.specs.declared.placed.Placed.{Placed}
 use Rattle.cfi_aux.specs.declared.records.Kind.{Kind}
 use Rattle.cfi_aux.specs.declared.records.Kind.TheVariants.{Call, Tail, Return, Switch, Import}
-use Rattle.cfi_items.specs.Words.{Words, insn_at, read_words, count_of}
-use Rattle.cfi_items.specs.Insns.{is_linked}
+use Rattle.cfi_instr.specs.Words.{Words, insn_at, read_words, count_of}
+use Rattle.cfi_instr.specs.Insns.{is_linked}
 use Rattle.cfi_values.specs.Some.{holds}
-use Rattle.cfi_items.specs.Items.{is_indirect}
-use Rattle.cfi_items.specs.Jumps.{ordinal_of}
-use Rattle.cfi_items.specs.inner.Jumps.{is_call, same, has_fitting_kind, lacks_kind_by}
-use Rattle.cfi_items.proofs.JumpLemmas.{has_rest}
+use Rattle.cfi_instr.specs.Items.{is_indirect}
+use Rattle.cfi_instr.specs.Jumps.{ordinal_of}
+use Rattle.cfi_instr.specs.inner.Jumps.{is_call, same, has_fitting_kind, lacks_kind_by}
+use Rattle.cfi_instr.proofs.JumpLemmas.{has_rest}
 use Rattle.cfi_instr.specs.Sizes.{offsets_of}
 use Rattle.cfi_instr.specs.Moves.{moved_kind}
 use Rattle.cfi_verify.specs.Branches.{IsKindOf, IsRecordOf, KindFits}

@@ -17,14 +17,14 @@ use Rattle.cfi_unit.specs.Unit.{words_of}
 use Rattle.cfi_unit.specs.Code.{UnitCode}
 use Rattle.cfi_aux.specs.declared.modules.Module.{Module}
 use Rattle.cfi_aux.specs.declared.placed.Placed.{Placed}
-use Rattle.cfi_items.specs.Words.{Words, is_of_text, read_words, count_of}
-use Rattle.cfi_items.specs.Fault.{input_of}
-use Rattle.cfi_items.proofs.RowTests.{PassesAll}
+use Rattle.cfi_instr.specs.Words.{Words, is_of_text, read_words, count_of}
+use Rattle.cfi_instr.specs.Fault.{input_of}
+use Rattle.cfi_instr.proofs.RowTests.{PassesAll}
 use Rattle.cfi_instr.specs.Sizes.{offsets_of}
 use Rattle.cfi_instr.specs.Units.{units_of}
 use Rattle.cfi_instr.specs.Moves.{is_of_long, addend_by, moved_by, moved_reloc}
 use Rattle.cfi_instr.specs.Output.{IsText}
-use Rattle.cfi_items.specs.Target.{named_symbol}
+use Rattle.cfi_instr.specs.Target.{named_symbol}
 use Rattle.cfi_place.specs.declared.fault.PlaceFault.{PlaceFault}
 use Rattle.cfi_place.specs.declared.room.Room.{Room}
 use Rattle.cfi_place.specs.Names.{Names}

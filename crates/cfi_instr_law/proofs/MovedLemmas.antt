@@ -17,18 +17,18 @@ use Rattle.rv_reloc.specs.declared.table.Formula.{Formula}
 use Rattle.rv_reloc.specs.declared.table.Formula.TheVariants as formulas
 use Rattle.rv_reloc.specs.Table.{immediate as row, rule_of}
 use Rattle.cfi_aux.specs.declared.records.Function.{Function}
-use Rattle.cfi_items.specs.Words.{Words, insn_at, is_of_text, count_of}
-use Rattle.cfi_items.specs.Insns.{is_auipc, is_branch}
+use Rattle.cfi_instr.specs.Words.{Words, insn_at, is_of_text, count_of}
+use Rattle.cfi_instr.specs.Insns.{is_auipc, is_branch}
 use Rattle.cfi_values.specs.Some.{holds}
-use Rattle.cfi_items.specs.inner.Insns.{is_lui, is_jal, is_store, has_low}
-use Rattle.cfi_items.specs.Items.{is_pair, item_of}
-use Rattle.cfi_items.specs.Target.{named_symbol}
-use Rattle.cfi_items.specs.inner.Functions.{is_covered}
-use Rattle.cfi_items.specs.inner.Misplaced.{has_form, fits_on, is_on, sits_by, names_well}
-use Rattle.cfi_items.proofs.RowTests.{PassesWords}
-use Rattle.cfi_items.proofs.RelocTests.{any-six, item-below}
-use Rattle.cfi_items.proofs.WordTests.{holds-within}
-use Rattle.cfi_items.proofs.RelocLemmas.{is_placed, is_out_of_place}
+use Rattle.cfi_instr.specs.inner.Insns.{is_lui, is_jal, is_store, has_low}
+use Rattle.cfi_instr.specs.Items.{is_pair, item_of}
+use Rattle.cfi_instr.specs.Target.{named_symbol}
+use Rattle.cfi_instr.specs.inner.Functions.{is_covered}
+use Rattle.cfi_instr.specs.inner.Misplaced.{has_form, fits_on, is_on, sits_by, names_well}
+use Rattle.cfi_instr.proofs.RowTests.{PassesWords}
+use Rattle.cfi_instr.proofs.RelocTests.{any-six, item-below}
+use Rattle.cfi_instr.proofs.WordTests.{holds-within}
+use Rattle.cfi_instr.proofs.RelocLemmas.{is_placed, is_out_of_place}
 use Rattle.cfi_instr.specs.Sizes.{is_long, words_before, offsets_of, moved}
 use Rattle.cfi_instr.specs.Moves.{is_of_long, kind_in, offset_in}
 use Rattle.cfi_instr.proofs.SizeLemmas.{offset-read}

@@ -10,14 +10,14 @@ use Rattle.cfi_aux.specs.declared.placed.Placed.{Placed}
 use Rattle.cfi_aux.specs.declared.records.Function.{Function}
 use Rattle.cfi_aux.specs.declared.records.Kind.{Kind}
 use Rattle.cfi_aux.specs.declared.records.Kind.TheVariants.{Call, Tail, Return, Switch, Import}
-use Rattle.cfi_items.specs.Words.{Words, read_words, count_of}
-use Rattle.cfi_items.specs.Items.{is_inner}
-use Rattle.cfi_items.specs.inner.Items.{is_item_at}
+use Rattle.cfi_instr.specs.Words.{Words, read_words, count_of}
+use Rattle.cfi_instr.specs.Items.{is_inner}
+use Rattle.cfi_instr.specs.inner.Items.{is_item_at}
 use Rattle.cfi_aux.specs.Extent.{byte_end, LiesIn}
-use Rattle.cfi_items.specs.inner.Functions.{covers, are_together, is_own_item}
-use Rattle.cfi_items.specs.Functions.{byte_end_before}
-use Rattle.cfi_items.specs.Jumps.{ordinal_of}
-use Rattle.cfi_items.specs.inner.Jumps.{lead_out, switches_astray, switches_astray_by}
+use Rattle.cfi_instr.specs.inner.Functions.{covers, are_together, is_own_item}
+use Rattle.cfi_instr.specs.Functions.{byte_end_before}
+use Rattle.cfi_instr.specs.Jumps.{ordinal_of}
+use Rattle.cfi_instr.specs.inner.Jumps.{lead_out, switches_astray, switches_astray_by}
 use Rattle.cfi_instr.specs.Sizes.{offsets_of, moved}
 use Rattle.cfi_instr.specs.Moves.{moved_kind}
 use Rattle.cfi_verify.specs.Branches.{IsEntry, AreEntries, AreEntriesIn, EntriesFit}

@@ -11,7 +11,7 @@ use Rattle.cfi_aux.specs.declared.records.Function.{Function}
 use Rattle.cfi_aux.specs.declared.records.Kind.{Kind}
 use Rattle.cfi_aux.specs.declared.records.Kind.TheVariants.{Call, Tail, Return, Switch, Import}
 use Rattle.cfi_aux.proofs.VersionLemmas.{records-later}
-use Rattle.cfi_items.specs.Words.{Words, read_words}
+use Rattle.cfi_instr.specs.Words.{Words, read_words}
 use Rattle.cfi_instr.specs.Moves.{moved_function, moved_kind}
 use Rattle.cfi_instr.specs.Output.{IsInstrumented}
 use Rattle.cfi_instr_law.specs.Proper.{NamesCallable, IsTyped}

@@ -17,11 +17,11 @@ use Rattle.elf_read.specs.declared.object.Reloc.{Reloc}
 use Rattle.elf_read.specs.declared.object.Symbol.{Symbol}
 use Rattle.elf_read.specs.Sound.{are_rivals, IsInsideArea, HasField, HasSymbol, IsSoundSymbol, IsSoundReloc, IsSoundObject}
 use Rattle.cfi_aux.specs.declared.modules.Module.{Module}
-use Rattle.cfi_items.specs.Words.{Words, read_words, count_of}
-use Rattle.cfi_items.specs.Items.{item_of}
-use Rattle.cfi_items.specs.Target.{offset_from, named_symbol}
-use Rattle.cfi_items.specs.Fault.{input_of}
-use Rattle.cfi_items.proofs.RowTests.{PassesAll, passes}
+use Rattle.cfi_instr.specs.Words.{Words, read_words, count_of}
+use Rattle.cfi_instr.specs.Items.{item_of}
+use Rattle.cfi_instr.specs.Target.{offset_from, named_symbol}
+use Rattle.cfi_instr.specs.Fault.{input_of}
+use Rattle.cfi_instr.proofs.RowTests.{PassesAll, passes}
 use Rattle.cfi_instr.specs.Sizes.{size_at, words_before, offsets_of, moved}
 use Rattle.cfi_instr.specs.Units.{distance}
 use Rattle.cfi_instr.specs.Moves.{moved_value, moved_symbol, addend_to, addend_in, addend_by, is_of_long, kind_in, offset_in, moved_by, moved_reloc}

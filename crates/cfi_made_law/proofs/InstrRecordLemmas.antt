@@ -18,8 +18,8 @@ use Rattle.cfi_aux.specs.declared.modules.Module.{Module}
 use Rattle.cfi_aux.specs.declared.records.Function.{Function}
 use Rattle.cfi_aux.specs.declared.records.Kind.{Kind}
 use Rattle.cfi_aux.specs.declared.records.Kind.TheVariants.{Call, Tail, Return, Switch, Import}
-use Rattle.cfi_items.specs.Words.{Words}
-use Rattle.cfi_items.specs.Functions.{byte_end_before}
+use Rattle.cfi_instr.specs.Words.{Words}
+use Rattle.cfi_instr.specs.Functions.{byte_end_before}
 use Rattle.cfi_instr.specs.Sizes.{moved}
 use Rattle.cfi_instr.specs.Moves.{moved_function, moved_kind}
 use Rattle.cfi_instr.specs.Output.{IsInstrumented}

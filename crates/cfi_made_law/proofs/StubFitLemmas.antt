@@ -10,7 +10,7 @@ use Rattle.elf_read.specs.declared.object.Reloc.{Reloc}
 use Rattle.elf_read.specs.declared.relocation.TheConstants.{HI20, LO12_I}
 use Rattle.cfi_aux.specs.Sound.{IsSoundModule}
 use Rattle.cfi_aux.specs.declared.modules.Module.{Module}
-use Rattle.cfi_limits.proofs.LimitLemmas.{AreFew}
+use Rattle.cfi_import.proofs.LimitLemmas.{AreFew}
 use Rattle.cfi_import.specs.declared.start.Start.{Start}
 use Rattle.cfi_import.specs.Imports.{imports_of, place_of}
 use Rattle.cfi_import.specs.Start.{start_of, stub_offset, cell_offset, text_end}

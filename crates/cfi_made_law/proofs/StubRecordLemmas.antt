@@ -27,7 +27,7 @@ use Rattle.cfi_aux.specs.declared.records.Function.{Function}
 use Rattle.cfi_aux.specs.declared.records.Kind.{Kind}
 use Rattle.cfi_aux.specs.declared.records.Records.{Records}
 use Rattle.cfi_aux.proofs.VersionLemmas.{records-written}
-use Rattle.cfi_limits.proofs.LimitLemmas.{AreFew}
+use Rattle.cfi_import.proofs.LimitLemmas.{AreFew}
 use Rattle.cfi_import.specs.declared.start.Start.{Start}
 use Rattle.cfi_import.specs.Imports.{leads_to, is_wanted, is_import, imports_of, names_of}
 use Rattle.cfi_import.specs.Start.{start_of, stub_offset, cell_offset}

@@ -4,7 +4,7 @@ use Rattle.elf_read.specs.declared.object.Symbol.{Symbol}
 use Rattle.cfi_type_table.specs.Spelling.{AreTypes}
 use Rattle.cfi_aux.specs.Sound.{IsSoundModule}
 use Rattle.cfi_aux.specs.declared.modules.Module.{Module}
-use Rattle.cfi_limits.proofs.LimitLemmas.{AreFew, few}
+use Rattle.cfi_import.proofs.LimitLemmas.{AreFew, few}
 use Rattle.cfi_import.specs.Imports.{imports_of}
 use Rattle.cfi_import.specs.Stubbed.{Parts, parts_of, parts_with, part_sizes, stubbed_parts, stubs_pass, IsStubbed}
 use Rattle.cfi_made_law.proofs.ReadLemmas.{IsSmall}

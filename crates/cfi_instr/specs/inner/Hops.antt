@@ -2,7 +2,7 @@
 -- word's unit in the output.
 use Rattle.std.specs.Prelude.{◌≡◌, ◌⊎◌, ℕ, ◌+◌, ◌-◌, ◌*◌, ◌<◌, ◌≤◌, Bool, nat_lt, nat_le, if◌then◌else◌, List, length, All, slice_index}
 use Rattle.elf_read.specs.declared.object.Symbol.{Symbol}
-use Rattle.cfi_items.specs.Words.{Words, count_of}
+use Rattle.cfi_instr.specs.Words.{Words, count_of}
 use Rattle.cfi_instr.specs.declared.hops.Hop.{Hop}
 use Rattle.cfi_instr.specs.declared.sizes.TheConstants.{LONG_WORDS, REACH_BACK, REACH_ON}
 use Rattle.cfi_instr.specs.Sizes.{is_long, size_at, offsets_of}

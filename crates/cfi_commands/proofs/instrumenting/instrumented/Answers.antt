@@ -1,7 +1,7 @@
 use Rattle.std.proofs.Common.{◌≢◌, refl, rules}
 use Rattle.std.proofs.lemmas.Result.{err_from_is_err_and}
 use Rattle.cfi_type_table.proofs.Tables.{small_count, small_fields}
-use Rattle.cfi_items.specs.declared.fault.InstrFault.TheVariants.{Memory}
+use Rattle.cfi_instr.specs.declared.fault.InstrFault.TheVariants.{Memory}
 use Rattle.cfi_commands.proofs.InstrumentingLemmas.{short_text, few_relocs, read-of, module_as_instrument}
 use Rattle.cfi_commands.proofs.instrumenting.instrumented.Goals as goal
 

@@ -1,5 +1,5 @@
 use Rattle.std.proofs.Common.{◌≡◌, ◌∙◌, ◌<◌, ℕ, Some, IfSome, ap, subst, rules}
-use Rattle.cfi_items.specs.Target.{aim_of_jump}
+use Rattle.cfi_instr.specs.Target.{aim_of_jump}
 use Rattle.cfi_instr.specs.declared.hops.Hop.{Hop}
 use Rattle.rv_insn.specs.declared.insn.Insn.{Insn}
 use Rattle.cfi_instr.proofs.HopIsLemmas.{some-hop}

@@ -1,5 +1,5 @@
 use Rattle.std.proofs.Common.{◌≤◌, sym, subst, List, ℕ, Bool}
-use Rattle.cfi_items.specs.Words.{Words, read_words, count_of}
+use Rattle.cfi_instr.specs.Words.{Words, read_words, count_of}
 use Rattle.cfi_instr.specs.declared.sizes.TheConstants.{MAX_WORDS}
 use Rattle.cfi_instr.specs.Sizes.{words_before}
 use Rattle.cfi_instr.specs.Units.{AllSpell}

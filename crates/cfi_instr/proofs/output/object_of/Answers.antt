@@ -1,5 +1,5 @@
 use Rattle.std.proofs.Common.{◌∙◌, ap, List, ℕ, Some}
-use Rattle.cfi_items.specs.Words.{read_words}
+use Rattle.cfi_instr.specs.Words.{read_words}
 use Rattle.cfi_instr.proofs.OutputLemmas.{text-is, symbols-are, relocs-are}
 use Rattle.cfi_instr.proofs.output.object_of.Goals as goal
 

@@ -1,6 +1,6 @@
 -- The set grows within each one that is enough.
 use Rattle.std.proofs.Common.{◌∙◌, ◌≤◌, List, Bool, ap, subst, rules}
-use Rattle.cfi_items.specs.Words.{count_of}
+use Rattle.cfi_instr.specs.Words.{count_of}
 use Rattle.cfi_instr.specs.declared.sizes.TheConstants.{MAX_WORDS}
 use Rattle.cfi_instr.specs.Sizes.{words_before, offsets_of, IsOver}
 use Rattle.cfi_instr.specs.Reach.{IsPassed}

@@ -1,6 +1,6 @@
 use Rattle.std.proofs.Common.{◌≡◌, ◌≤◌, ℕ, List, Bool, length}
 use Rattle.elf_read.specs.declared.object.Symbol.{Symbol}
-use Rattle.cfi_items.specs.Words.{Words, count_of}
+use Rattle.cfi_instr.specs.Words.{Words, count_of}
 use Rattle.cfi_instr.specs.declared.sizes.TheConstants.{MAX_WORDS}
 use Rattle.cfi_instr.specs.Sizes.{words_before, offsets_of, AreSmall}
 use Rattle.cfi_instr.specs.Reach.{IsEnough, IsWithin, shorts}

@@ -1,5 +1,5 @@
 use Rattle.std.proofs.Common.{◌<◌, arith}
-use Rattle.cfi_items.specs.Words.{count_of}
+use Rattle.cfi_instr.specs.Words.{count_of}
 use Rattle.cfi_instr.proofs.WideLemmas.{widened-grown, widened-still}
 use Rattle.cfi_instr.proofs.reach.widen.Goals as goal
 use Rattle.cfi_instr.proofs.reach.widen.Goals.{then-widen_at, else-widen_at}

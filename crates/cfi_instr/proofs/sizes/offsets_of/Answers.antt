@@ -1,7 +1,7 @@
 use Rattle.std.proofs.Common.{◌≡◌, ◌∙◌, ◌+◌, ◌*◌, ◌≤◌, ℕ, List, map, ◌++◌, ◌∷◌, [], sym, ap, subst, arith}
 use Rattle.std.specs.List.{range_with_len}
 use Rattle.std.proofs.lemmas.List.FromFn.{map-range_with_len_more}
-use Rattle.cfi_items.specs.Words.{count_of}
+use Rattle.cfi_instr.specs.Words.{count_of}
 use Rattle.cfi_instr.specs.declared.sizes.TheConstants.{MAX_WORDS}
 use Rattle.cfi_instr.specs.Sizes.{size_at, words_before, offset_of, offsets_of, AreSmall}
 use Rattle.cfi_instr.proofs.SizeLemmas.{total-grows, place-more, offsets-small}

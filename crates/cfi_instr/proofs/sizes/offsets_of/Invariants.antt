@@ -1,6 +1,6 @@
 use Rattle.std.proofs.Common.{◌≡◌, ◌+◌, ◌≤◌, ℕ, List, Bool, map}
 use Rattle.std.specs.List.{range_with_len}
-use Rattle.cfi_items.specs.Words.{Words}
+use Rattle.cfi_instr.specs.Words.{Words}
 use Rattle.cfi_instr.specs.declared.sizes.TheConstants.{MAX_WORDS}
 use Rattle.cfi_instr.specs.Sizes.{words_before, offset_of}
 use Rattle.cfi_instr.proofs.sizes.offsets_of.Given as goal

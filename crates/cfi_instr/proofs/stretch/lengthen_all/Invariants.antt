@@ -1,6 +1,6 @@
 use Rattle.std.proofs.Common.{List}
 use Rattle.elf_read.specs.declared.object.Symbol.{Symbol}
-use Rattle.cfi_items.specs.Words.{Words}
+use Rattle.cfi_instr.specs.Words.{Words}
 use Rattle.cfi_instr.specs.inner.Hops.{AreReady}
 use Rattle.cfi_instr.proofs.stretch.lengthen_all.Given as goal
 

@@ -1,7 +1,7 @@
 -- The branches are ready where the set is within each one that is enough, and stay so.
 use Rattle.std.proofs.Common.{◌∙◌, ◌+◌, ℕ, List, length, ap}
 use Rattle.std.proofs.lemmas.List.FromFn.{length-map-range_with_len}
-use Rattle.cfi_items.specs.Words.{count_of}
+use Rattle.cfi_instr.specs.Words.{count_of}
 use Rattle.cfi_instr.specs.Sizes.{offset_of}
 use Rattle.cfi_instr.proofs.HopLemmas.{both-ok, ready-first}
 use Rattle.cfi_instr.proofs.stretch.stretch.Goals as goal

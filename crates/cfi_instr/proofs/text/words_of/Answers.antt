@@ -4,7 +4,7 @@ use Rattle.std.specs.List.{flat_map}
 use Rattle.std.proofs.lemmas.Grind.{flat_map-append}
 use Rattle.elf_read.specs.Places.{joined}
 use Rattle.cfi_unit.specs.Unit.{words_of}
-use Rattle.cfi_items.proofs.JumpLemmas.{ordinal-more}
+use Rattle.cfi_instr.proofs.JumpLemmas.{ordinal-more}
 use Rattle.cfi_instr.specs.Units.{units_at}
 use Rattle.cfi_instr.proofs.text.words_of.Goals as goal
 use Rattle.cfi_instr.proofs.text.words_of.Goals.{then-is_indirect, else-is_indirect}

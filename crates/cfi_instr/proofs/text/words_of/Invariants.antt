@@ -3,8 +3,8 @@ use Rattle.std.specs.List.{flat_map}
 use Rattle.elf_read.specs.Places.{joined}
 use Rattle.elf_read.specs.declared.object.Symbol.{Symbol}
 use Rattle.cfi_unit.specs.Unit.{words_of}
-use Rattle.cfi_items.specs.Words.{Words}
-use Rattle.cfi_items.specs.Jumps.{ordinal_of}
+use Rattle.cfi_instr.specs.Words.{Words}
+use Rattle.cfi_instr.specs.Jumps.{ordinal_of}
 use Rattle.cfi_instr.specs.Units.{units_at}
 use Rattle.cfi_instr.proofs.text.words_of.Given as goal
 

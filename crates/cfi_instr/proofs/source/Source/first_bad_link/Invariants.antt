@@ -1,0 +1,6 @@
+use Rattle.elf_read.specs.Places.{IsNone}
+use Rattle.cfi_instr.specs.inner.Flaws.{is_bad_link_at}
+use Rattle.cfi_instr.proofs.source.Source.first_bad_link.Given as goal
+
+abbrev pub invariant-loop-w : goal.invariant-loop-w
+invariant-loop-w l = IsNone (is_bad_link_at l.self) l.w

@@ -1,5 +1,0 @@
-use Rattle.cfi_items.proofs.EndLemmas.{AreRaised}
-use Rattle.cfi_items.proofs.ends.ends_of.Given as goal
-
-abbrev pub invariant-loop-function : goal.invariant-loop-function
-invariant-loop-function l = AreRaised l.functions l.count l.function-index l.ends.items

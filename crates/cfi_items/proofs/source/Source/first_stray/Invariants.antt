@@ -1,6 +1,0 @@
-use Rattle.elf_read.specs.Places.{IsNone}
-use Rattle.cfi_items.specs.inner.Stray.{is_stray}
-use Rattle.cfi_items.proofs.source.Source.first_stray.Given as goal
-
-abbrev pub invariant-loop-w : goal.invariant-loop-w
-invariant-loop-w l = IsNone (is_stray l.self l.symbols l.functions) l.w
