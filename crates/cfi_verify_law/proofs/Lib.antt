@@ -1,3 +1,17 @@
+pub mod MovedLemmas
+pub mod LinkedRowLemmas
+pub mod PartLemmas
+pub mod LinkedPlaceLemmas
+pub mod JoinedLemmas
+pub mod StepLemmas
+pub mod FoldLemmas
+pub mod LinkedLemmas
+pub mod ExampleLemmas
+pub mod WordLemmas
+mod LongerLemmas
+pub mod PlaceLemmas
+pub mod JoinLemmas
+pub mod StayLemmas
 pub mod DecideLemmas
 pub mod UnitLemmas
 pub mod RowLemmas

@@ -1,6 +1,6 @@
 use Rattle.cfi_verify.proofs.RowLemmas.{no_fault}
 use Rattle.cfi_verify_law.proofs.VerifiedLemmas.{verified}
-use Rattle.cfi_verify_law.proofs.laws.no_fault_is_verified.Goals as goal
+use Rattle.cfi_verify_law.proofs.verified.no_fault_is_verified.Goals as goal
 
 pub returns-clause-verified : goal.returns-clause-verified
 returns-clause-verified c = verified

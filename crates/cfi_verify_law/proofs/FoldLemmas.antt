@@ -20,11 +20,11 @@ use Rattle.cfi_series.specs.Room.{room_after}
 use Rattle.cfi_series.specs.Order.{Joins}
 use Rattle.cfi_verify.specs.Target.{MayLead}
 use Rattle.cfi_verify.specs.Faults.{IsVerifiedAs}
-use Rattle.cfi_link_law.specs.Parts.{JoinBehind}
-use Rattle.cfi_link_law.proofs.MovedLemmas.{words_in}
-use Rattle.cfi_link_law.proofs.PlaceLemmas.{words_in-append}
-use Rattle.cfi_link_law.proofs.JoinedLemmas.{functions_from, branches_from}
-use Rattle.cfi_link_law.proofs.StepLemmas.{IsSoFar, HasRows, room-more, text-size, entries-more, rows-more}
+use Rattle.cfi_verify_law.specs.Parts.{JoinBehind}
+use Rattle.cfi_verify_law.proofs.MovedLemmas.{words_in}
+use Rattle.cfi_verify_law.proofs.LinkedPlaceLemmas.{words_in-append}
+use Rattle.cfi_verify_law.proofs.JoinedLemmas.{functions_from, branches_from}
+use Rattle.cfi_verify_law.proofs.StepLemmas.{IsSoFar, HasRows, room-more, text-size, entries-more, rows-more}
 
 -- modules that join one after the other, behind placed ones
 abbrev pub Follow : (code_words : ℕ) → (done : List Placed) → List Module → List Placed → Type 0

@@ -22,11 +22,11 @@ use Rattle.cfi_series.specs.Room.{room_after}
 use Rattle.cfi_verify.specs.Spots.{checks_of}
 use Rattle.cfi_verify.specs.Target.{entries_in, entries_of, MayLead, LeadsWell}
 use Rattle.cfi_verify.specs.Faults.{IsVerified}
-use Rattle.cfi_link_law.specs.Parts.{AreParts}
-use Rattle.cfi_link_law.proofs.RowLemmas.{Lie, HaveBranches, rows-fit, rows-end, rows-idle, rows-slots, rows-kinds, rows-entries, rows-count}
-use Rattle.cfi_link_law.proofs.JoinedLemmas.{functions_from, branches_from, functions-all, branches-all}
-use Rattle.cfi_link_law.proofs.StepLemmas.{IsSoFar, HasRows}
-use Rattle.cfi_link_law.proofs.FoldLemmas.{Follow, follow-from, code_of, code-units, text-all, rows-all}
+use Rattle.cfi_verify_law.specs.Parts.{AreParts}
+use Rattle.cfi_verify_law.proofs.LinkedRowLemmas.{Lie, HaveBranches, rows-fit, rows-end, rows-idle, rows-slots, rows-kinds, rows-entries, rows-count}
+use Rattle.cfi_verify_law.proofs.JoinedLemmas.{functions_from, branches_from, functions-all, branches-all}
+use Rattle.cfi_verify_law.proofs.StepLemmas.{IsSoFar, HasRows}
+use Rattle.cfi_verify_law.proofs.FoldLemmas.{Follow, follow-from, code_of, code-units, text-all, rows-all}
 
 -- a list without items
 empty : {X : Type 0} (xs : List X) → length xs ≡ 0 → xs ≡ []

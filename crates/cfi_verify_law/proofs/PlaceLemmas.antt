@@ -19,8 +19,8 @@ use Rattle.cfi_place.specs.Relocated.{Areas, areas_of, high_parts, relocated_by,
 use Rattle.cfi_place.specs.Slots.{checks_from, with_slots}
 use Rattle.cfi_place.specs.Functions.{placed_functions}
 use Rattle.cfi_place.specs.Placed.{bytes_as_words, values_in, relocated, unless_undefined, where_fits, code_fits, data_fits, placed_in, IsPlaced}
-use Rattle.cfi_series_law.proofs.LongerLemmas.{more_placed}
-use Rattle.cfi_series_law.proofs.WordLemmas.{units_from}
+use Rattle.cfi_verify_law.proofs.LongerLemmas.{more_placed}
+use Rattle.cfi_verify_law.proofs.WordLemmas.{units_from}
 
 -- ---- no want of memory
 

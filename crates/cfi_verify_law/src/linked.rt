@@ -6,8 +6,8 @@ ghost use Rattle.cfi_aux.specs.declared.placed.Placed.{Placed};
 ghost use Rattle.cfi_word.specs.declared.limits.TheConstants.{MIN_CODE_WORDS};
 ghost use Rattle.cfi_verify.specs.Example.{loop_module};
 ghost use Rattle.cfi_verify.specs.Faults.{IsVerified};
-ghost use Rattle.cfi_link_law.specs.Example.{loop_source, two_linked, second_module, two_module};
-ghost use Rattle.cfi_link_law.specs.Parts.{AreParts};
+ghost use Rattle.cfi_verify_law.specs.Example.{loop_source, two_linked, second_module, two_module};
+ghost use Rattle.cfi_verify_law.specs.Parts.{AreParts};
 
 /// A linked module that has the words of its parts verifies behind the modules behind which they join in order.
 ///

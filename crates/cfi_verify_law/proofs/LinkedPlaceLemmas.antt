@@ -15,8 +15,8 @@ use Rattle.cfi_unit.specs.Spots.{spots_of, BeginsUnit}
 use Rattle.cfi_place.specs.Functions.{make_function, placed_functions}
 use Rattle.cfi_link.specs.declared.start.Start.{Start}
 use Rattle.cfi_link.specs.Joined.{function_at}
-use Rattle.cfi_link_law.proofs.MovedLemmas.{moved, words_in, spots-moved, spots-append, spots-low, spots-high}
-use Rattle.cfi_link_law.proofs.PartLemmas.{IsMoved, AreMoved, shifted-fits}
+use Rattle.cfi_verify_law.proofs.MovedLemmas.{moved, words_in, spots-moved, spots-append, spots-low, spots-high}
+use Rattle.cfi_verify_law.proofs.PartLemmas.{IsMoved, AreMoved, shifted-fits}
 
 -- ---- units
 

@@ -30,8 +30,8 @@ use Rattle.cfi_verify.specs.Example.{loop_module}
 use Rattle.cfi_verify.specs.Target.{entries_in, LeadsHome, LeadsToEntry, MayLead}
 use Rattle.cfi_verify.specs.Faults.{IsVerified, IsVerifiedAs}
 use Rattle.cfi_verify.proofs.ExampleLemmas.{verified, loop_verified}
-use Rattle.cfi_link_law.specs.Parts.{JoinBehind, AreParts}
-use Rattle.cfi_link_law.specs.Example.{loop_records, loop_source, two_linked, second_module, two_module}
+use Rattle.cfi_verify_law.specs.Parts.{JoinBehind, AreParts}
+use Rattle.cfi_verify_law.specs.Example.{loop_records, loop_source, two_linked, second_module, two_module}
 
 -- ---- the modules
 

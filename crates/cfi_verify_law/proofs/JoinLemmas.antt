@@ -12,7 +12,7 @@ use Rattle.cfi_series.specs.declared.fault.JoinFault.TheVariants.{Place, Verify,
 use Rattle.cfi_series.specs.Room.{room_after}
 use Rattle.cfi_series.specs.Order.{names_of, IsPlacedBehind, Joins, IsJoinFault}
 use Rattle.cfi_verify_law.proofs.VerifiedLemmas.{verified_or_first}
-use Rattle.cfi_series_law.proofs.PlaceLemmas.{placed_or_not}
+use Rattle.cfi_verify_law.proofs.PlaceLemmas.{placed_or_not}
 
 module _ (code_words : ℕ) (before : List Placed) (m : Module) where
   abbrev JoinsOrFaults : Type 0

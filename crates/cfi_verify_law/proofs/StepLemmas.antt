@@ -32,11 +32,11 @@ use Rattle.cfi_verify.specs.declared.checks.CheckSpot.{CheckSpot}
 use Rattle.cfi_verify.specs.Spots.{check_of, checks_of}
 use Rattle.cfi_verify.specs.Target.{entries_in, entries_of, MayLead}
 use Rattle.cfi_verify.specs.Faults.{IsVerifiedAs}
-use Rattle.cfi_link_law.proofs.MovedLemmas.{moved, moved_check, words_in, spots-moved, spots-append, spots-high, checks-moved}
-use Rattle.cfi_link_law.proofs.RowLemmas.{Lie, HaveBranches, lie-rows, lie-append, have-rows, have-append}
-use Rattle.cfi_link_law.proofs.PartLemmas.{IsMoved, AreMoved, StandsIn, node-there, lie, leads, have}
-use Rattle.cfi_link_law.proofs.PlaceLemmas.{words_in-append, part-has, part-only, part-next, placed_by, AreNear, functions-moved, moved-home}
-use Rattle.cfi_link_law.proofs.JoinedLemmas.{functions_from, branches_from, functions-all, callable-all}
+use Rattle.cfi_verify_law.proofs.MovedLemmas.{moved, moved_check, words_in, spots-moved, spots-append, spots-high, checks-moved}
+use Rattle.cfi_verify_law.proofs.LinkedRowLemmas.{Lie, HaveBranches, lie-rows, lie-append, have-rows, have-append}
+use Rattle.cfi_verify_law.proofs.PartLemmas.{IsMoved, AreMoved, StandsIn, node-there, lie, leads, have}
+use Rattle.cfi_verify_law.proofs.LinkedPlaceLemmas.{words_in-append, part-has, part-only, part-next, placed_by, AreNear, functions-moved, moved-home}
+use Rattle.cfi_verify_law.proofs.JoinedLemmas.{functions_from, branches_from, functions-all, callable-all}
 
 -- some modules are joined and stand in the whole, as these placed ones at the end of `done`, with the units `front`;
 -- the others are still to be joined, with the units `rest`

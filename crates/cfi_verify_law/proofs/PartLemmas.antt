@@ -22,8 +22,8 @@ use Rattle.cfi_verify.specs.declared.checks.CheckSpot.{CheckSpot}
 use Rattle.cfi_verify.specs.Functions.{IsIdle, IsLastIn, EndsWell}
 use Rattle.cfi_verify.specs.Target.{LeadsTo, IsAtHome, entries_of, LeadsHome, LeadsToEntry, MayLead}
 use Rattle.cfi_verify.specs.Branches.{IsKindOf, IsEntry}
-use Rattle.cfi_link_law.proofs.MovedLemmas.{moved, moved_check}
-use Rattle.cfi_link_law.proofs.RowLemmas.{FitsIn, Lie, HasBranch, HaveBranches}
+use Rattle.cfi_verify_law.proofs.MovedLemmas.{moved, moved_check}
+use Rattle.cfi_verify_law.proofs.LinkedRowLemmas.{FitsIn, Lie, HasBranch, HaveBranches}
 
 -- a function of a part, so many words further on in the whole, and its type so many nodes further on
 pub record IsMoved (n t : ℕ) (f g : PlacedFunction) : Type 0 where

@@ -1,6 +1,6 @@
 use Rattle.cfi_series.proofs.GrowthLemmas.{code_kept}
-use Rattle.cfi_series_law.proofs.StayLemmas.{starts_stay}
-use Rattle.cfi_series_law.proofs.laws.more_modules_keep.Goals as goal
+use Rattle.cfi_verify_law.proofs.StayLemmas.{starts_stay}
+use Rattle.cfi_verify_law.proofs.joining.more_modules_keep.Goals as goal
 
 pub returns-clause-words : goal.returns-clause-words
 returns-clause-words c = λ code_words n ms live later a b of_a of_b word there.

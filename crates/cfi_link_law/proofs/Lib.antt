@@ -1,9 +1,0 @@
-pub mod MovedLemmas
-pub mod RowLemmas
-pub mod PartLemmas
-pub mod PlaceLemmas
-pub mod JoinedLemmas
-pub mod StepLemmas
-pub mod FoldLemmas
-pub mod VerifiedLemmas
-pub mod ExampleLemmas

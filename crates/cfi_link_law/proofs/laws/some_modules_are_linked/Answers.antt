@@ -1,5 +1,0 @@
-use Rattle.cfi_link_law.proofs.ExampleLemmas.{two_parts}
-use Rattle.cfi_link_law.proofs.laws.some_modules_are_linked.Goals as goal
-
-pub returns : goal.returns
-returns c = two_parts
