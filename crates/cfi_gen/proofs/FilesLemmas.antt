@@ -12,9 +12,9 @@ use Rattle.cfi_commands.specs.declared.fault.CommandFault.{CommandFault}
 use Rattle.cfi_commands.specs.declared.fault.CommandFault.TheVariants.{File, Together, Memory}
 use Rattle.cfi_commands.specs.declared.refusal.Refusal.{Refusal}
 use Rattle.elf_read.specs.Places.{joined}
-use Rattle.cfi_draw.specs.Drawn.{AreSeeded}
-use Rattle.cfi_draw.specs.Source.{source_text}
-use Rattle.cfi_draw.specs.declared.shape.Drawn.{Drawn}
+use Rattle.cfi_gen.specs.Drawn.{AreSeeded}
+use Rattle.cfi_gen.specs.Source.{source_text}
+use Rattle.cfi_gen.specs.declared.shape.Drawn.{Drawn}
 use Rattle.std.specs.List.{AllZip}
 use Rattle.cfi_gen.specs.inner.Fault.{fault_at}
 use Rattle.cfi_gen.specs.Generated.{AreMadeFiles, IsMadeFile, IsFirstBadSource, IsSourcesFault, RefusesSource}

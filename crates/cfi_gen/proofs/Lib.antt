@@ -1,3 +1,6 @@
-pub mod PlanLemmas
+mod DrawsLemmas
+mod LineLemmas
 pub mod SizeLemmas
+pub mod PlanLemmas
+pub mod MeasureLemmas
 pub mod FilesLemmas

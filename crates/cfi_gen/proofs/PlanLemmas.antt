@@ -5,16 +5,16 @@ use Rattle.std.specs.Fmt.{digits}
 use Rattle.std.specs.Str.{is_utf8, chars}
 use Rattle.std.proofs.lemmas.Bool.{cases_lt}
 use lib.Utf8.{encode}
-use Rattle.cfi_draw.specs.Plan.{plan_text, setting_lines, guest_lines}
-use Rattle.cfi_draw.specs.Source.{line}
-use Rattle.cfi_draw.specs.declared.shape.TheConstants.{MAX_COUNT, MIN_COUNT}
+use Rattle.cfi_gen.specs.Plan.{plan_text, setting_lines, guest_lines}
+use Rattle.cfi_gen.specs.Source.{line}
+use Rattle.cfi_gen.specs.declared.shape.TheConstants.{MAX_COUNT, MIN_COUNT}
 use Rattle.cfi_plan.specs.Reading.{plan_in, with_text}
 use Rattle.cfi_plan.specs.Line.{counted_form, pair_form, start_in, module_form}
 use Rattle.cfi_text.specs.Decimal.{number_in}
 use Rattle.cfi_text.specs.Names.{is_name, is_file}
 use Rattle.cfi_text.specs.Words.{words_in}
 use Rattle.cfi_word.specs.declared.limits.TheConstants.{MAX_FILE_BYTES}
-use Rattle.cfi_gen.specs.Plan.{drawn_plan}
+use Rattle.cfi_gen.specs.PlanRead.{drawn_plan}
 
 -- the plan's text is read, it is short, and the plan has so many modules
 pub record IsRead (count : ℕ) : Type 0 where

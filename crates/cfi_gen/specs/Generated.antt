@@ -7,9 +7,9 @@ use Rattle.cfi_commands.specs.Instrumenting.{IsInstrumentedFile, IsInstrumentFau
 use Rattle.cfi_commands.specs.declared.fault.CommandFault.{CommandFault}
 use Rattle.cfi_commands.specs.declared.fault.CommandFault.TheVariants.{File, Together, Memory}
 use Rattle.cfi_commands.specs.declared.refusal.Refusal.{Refusal}
-use Rattle.cfi_draw.specs.Drawn.{AreSeeded}
-use Rattle.cfi_draw.specs.Source.{source_text}
-use Rattle.cfi_draw.specs.declared.shape.Drawn.{Drawn}
+use Rattle.cfi_gen.specs.Drawn.{AreSeeded}
+use Rattle.cfi_gen.specs.Source.{source_text}
+use Rattle.cfi_gen.specs.declared.shape.Drawn.{Drawn}
 
 -- the file of a source, by way of its object's
 pub record IsMadeFile (text file : List ℕ) : Type 0 where

@@ -1,4 +1,9 @@
-pub mod Generated
+pub mod Summary
+pub mod Draws
+pub mod Drawn
+pub mod Source
 pub mod Plan
+pub mod Generated
+pub mod PlanRead
 pub mod Measured
 pub mod inner

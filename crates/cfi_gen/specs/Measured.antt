@@ -5,7 +5,7 @@ use Rattle.cfi_aux.specs.declared.placed.Placed.{Placed}
 use Rattle.cfi_commands.specs.Files.{ArePlacedFiles}
 use Rattle.cfi_policy.specs.Groups.{AreGroups}
 use Rattle.cfi_policy.specs.declared.group.Group.{Group}
-use Rattle.cfi_summary.specs.declared.summary_text.Measure.{Measure}
+use Rattle.cfi_gen.specs.declared.summary_text.Measure.{Measure}
 
 -- their words
 abbrev pub words_in : List Placed → ℕ

@@ -1,24 +1,26 @@
--- The plan of drawn modules: the first is there from the start, and the others are loaded late.
-use Rattle.std.specs.Prelude.{ℕ, ◌==◌, List, [], ◌∷◌, codes}
+-- The plan of generated modules: the first is loaded at the start, and the others are loaded late.
+use Rattle.std.specs.Prelude.{ℕ, List, ◌++◌, codes, if◌then◌else◌, ◌==◌}
 use Rattle.elf_read.specs.Places.{joined}
-use Rattle.cfi_draw.specs.Source.{module_name, file_name}
-use Rattle.cfi_plan.specs.declared.plan.Plan.{Plan}
-use Rattle.cfi_plan.specs.declared.plan.PlanModule.{PlanModule}
-use Rattle.cfi_plan.specs.declared.plan.ScriptLine.TheVariants.{Refresh}
-use Rattle.cfi_word.specs.declared.limits.TheConstants.{MAX_VERSIONS}
+use Rattle.cfi_gen.specs.Source.{line, module_name, file_name}
 
--- the module of a number
-abbrev pub drawn_module : (number : ℕ) → PlanModule
-drawn_module number = record { name = module_name number; file = file_name number; start = number == 0 }
+-- the lines ahead of the modules
+unfoldable pub setting_lines : List ℕ
+setting_lines = line (codes "plan 1") ++ line (codes "code 16384") ++ line (codes "fuel 10000000")
 
--- the plan of so many
-abbrev pub drawn_plan : (count : ℕ) → Plan
-drawn_plan count = record {
-  code_words = 16384;
-  versions = MAX_VERSIONS;
-  first = 0;
-  fuel = 10000000;
-  modules = joined (λ number. drawn_module number ∷ []) count;
-  guests = codes "main" ∷ codes "main" ∷ codes "main" ∷ codes "main" ∷ [];
-  script = Refresh 20 ∷ [];
-}
+-- four guests
+unfoldable pub guest_lines : List ℕ
+guest_lines =
+    line (codes "guest main") ++ line (codes "guest main") ++ line (codes "guest main") ++ line (codes "guest main")
+
+-- when a module is loaded
+abbrev pub time_word : (number : ℕ) → List ℕ
+time_word number = if number == 0 then codes "start" else codes "late"
+
+-- a module, its file, and when it is loaded
+abbrev pub module_line : (number : ℕ) → List ℕ
+module_line number =
+    line (codes "module " ++ module_name number ++ codes " " ++ file_name number ++ codes " " ++ time_word number)
+
+-- the plan of so many modules
+unfoldable pub plan_text : (count : ℕ) → List ℕ
+plan_text count = setting_lines ++ joined module_line count ++ guest_lines ++ line (codes "refresh 20")

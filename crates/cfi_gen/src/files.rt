@@ -3,15 +3,15 @@
 ghost use Rattle.std.specs.Prelude.{◌≡◌, ◌≤◌, length, All, IfOk, IfErr};
 ghost use Rattle.cfi_commands.specs.Fault.{IsOfFile};
 ghost use Rattle.cfi_commands.specs.Modules.{IsShortFile};
-ghost use Rattle.cfi_draw.specs.Drawn.{AreFunctions};
-ghost use Rattle.cfi_draw.specs.Source.{source_text};
-ghost use Rattle.cfi_draw.specs.declared.shape.TheConstants.{MAX_COUNT};
+ghost use Rattle.cfi_gen.specs.Drawn.{AreFunctions};
+ghost use Rattle.cfi_gen.specs.Source.{source_text};
+ghost use Rattle.cfi_gen.specs.declared.shape.TheConstants.{MAX_COUNT};
 ghost use Rattle.cfi_gen.specs.Generated.{AreMadeFiles, IsMadeFile, IsSourcesFault, RefusesSource};
 ghost use Rattle.cfi_gen.specs.inner.Fault.{fault_at};
 ghost use Rattle.cfi_word.specs.declared.limits.TheConstants.{MAX_FILE_BYTES};
 
 use cfi_commands::{CommandFault, assembled, instrumented};
-use cfi_draw::{Drawn, source_of, sources_are_short};
+use crate::{Drawn, source_of, sources_are_short};
 use cfi_made_law::{assembled_are_within_limits, instrumented_are_within_limits};
 use cfi_values::{Bytes, Items};
 use elf_write::laws::limits_fit;

@@ -1,15 +1,32 @@
-//! The modules that are drawn of a seed: their files, the plan that runs them, and how much they are.
+//! What is drawn of a seed: modules, their sources, files and plan, how much they are, and the summary of their run.
 //!
-//! Stands on `cfi_draw`, `cfi_commands` and what these stand on; `cfi_top` calls it. Proved: the files are those of the
+//! Stands on `rand_pcg` and `rand_core`, `cfi_commands`, `cfi_report` and what these stand on; `cfi_request` and `cfi_top`
+//! call it. Proved: what is drawn is by the words of the generator, in the order of `specs/Drawn.antt`; the texts are
+//! those of `specs/Source.antt` and `specs/Plan.antt`, and no source is longer than a file; the files are those of the
 //! drawn sources, assembled, instrumented and written, and the first source that is refused is told with its refusal, by
-//! `specs/Generated.antt`; the plan's text is read as the plan of `specs/Plan.antt`; how much modules are, by
-//! `specs/Measured.antt`. Only tested: nothing. Open: that the assembler and the instrumenter refuse no source.
+//! `specs/Generated.antt`; the plan's text is read as the plan of `specs/PlanRead.antt`; how much modules are, by
+//! `specs/Measured.antt`; the summary's text is that of `specs/Summary.antt`, of three numbers and a report. Only tested:
+//! nothing. Open: that the assembler and the instrumenter refuse no source.
 #![tactic(auto)]
 
+mod draws;
 mod files;
-pub mod laws;
+mod lengths;
+mod main_function;
 mod making;
 mod measure;
+mod plan;
+pub mod plan_read;
+mod shape;
+mod source;
+mod spell;
+mod summary_text;
 
+pub use draws::{STREAM, draw_modules};
+pub use lengths::sources_are_short;
 pub use making::{Generated, generate};
 pub use measure::measure_of;
+pub use plan::plan_of;
+pub use shape::{Drawn, Function, Kind, MAX_CONSTANTS, MAX_COUNT, MAX_FUNCTIONS, MIN_COUNT};
+pub use source::source_of;
+pub use summary_text::{Measure, summary};

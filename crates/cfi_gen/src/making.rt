@@ -2,17 +2,17 @@
 
 ghost use Rattle.std.specs.Prelude.{◌≡◌, ◌≤◌, length, All, IfOk, IfErr, Ok, string_bytes};
 ghost use Rattle.cfi_commands.specs.Modules.{IsShortFile};
-ghost use Rattle.cfi_draw.specs.Plan.{plan_text};
-ghost use Rattle.cfi_draw.specs.declared.shape.TheConstants.{MAX_COUNT, MIN_COUNT};
+ghost use Rattle.cfi_gen.specs.Plan.{plan_text};
+ghost use Rattle.cfi_gen.specs.declared.shape.TheConstants.{MAX_COUNT, MIN_COUNT};
 ghost use Rattle.cfi_gen.specs.Generated.{AreGenerated, IsGenerateFault};
-ghost use Rattle.cfi_gen.specs.Plan.{drawn_plan};
+ghost use Rattle.cfi_gen.specs.PlanRead.{drawn_plan};
 ghost use Rattle.cfi_plan.specs.Plan.{IsPlan};
 ghost use Rattle.cfi_plan.specs.Reading.{plan_in};
 
 use crate::files::files_of;
 use crate::laws::plans_are_read;
 use cfi_commands::CommandFault;
-use cfi_draw::{draw_modules, plan_of};
+use crate::{draw_modules, plan_of};
 use cfi_plan::{Plan, PlanFault, read_plan};
 use cfi_values::{Bytes, Items};
 use std::alloc::{AllocError, Global};

@@ -11,7 +11,7 @@ use cfi_aux::Placed;
 use cfi_commands::{CommandFault, placed_files};
 use cfi_plan::Plan;
 use cfi_policy::{Group, groups};
-use cfi_summary::Measure;
+use crate::Measure;
 use cfi_values::{Bytes, Items};
 use cfi_word::map::FIRST_BASE;
 use std::alloc::Global;

@@ -7,7 +7,7 @@ use Rattle.std.specs.Str.{bytes_eq}
 use Rattle.cfi_args.specs.declared.split.Split.{Split}
 use Rattle.cfi_args.specs.Split.{IsSplit, command_in, operands_of as operands_in}
 use Rattle.cfi_args.specs.Words.{IsOperand}
-use Rattle.cfi_draw.specs.declared.shape.TheConstants.{MAX_COUNT, MIN_COUNT}
+use Rattle.cfi_gen.specs.declared.shape.TheConstants.{MAX_COUNT, MIN_COUNT}
 use Rattle.cfi_text.specs.Decimal.{IsDecimal, dec_text, number_in, small_number_in}
 use Rattle.cfi_text.proofs.DecimalLemmas.{number_in-some, dec_text-IsDecimal, small_number_in-back, small_number_in-says}
 use Rattle.cfi_outside.specs.inner.Drawing.{command_by, within_limits, count_in}

@@ -1,7 +1,7 @@
 -- The commands of the program, and the words that are one. A word is its bytes.
 use Rattle.std.specs.Prelude.{◌≡◌, ℕ, ◌<◌, ◌≤◌, ◌^◌, List, [], ◌∷◌, length, codes, All, Option, Some, None, ⊤}
 use Rattle.cfi_args.specs.Words.{IsOperand}
-use Rattle.cfi_draw.specs.declared.shape.TheConstants.{MAX_COUNT, MIN_COUNT}
+use Rattle.cfi_gen.specs.declared.shape.TheConstants.{MAX_COUNT, MIN_COUNT}
 use Rattle.cfi_text.specs.Decimal.{dec_text}
 use Rattle.cfi_outside.specs.declared.command.Command.{Command}
 use Rattle.cfi_outside.specs.declared.command.Command.TheVariants as commands

@@ -6,7 +6,7 @@ ghost use Rattle.cfi_outside.specs.Command.{IsReading};
 ghost use Rattle.cfi_outside.specs.inner.Drawing.{command_by, count_in};
 
 use crate::command::Command;
-use cfi_draw::{MAX_COUNT, MIN_COUNT};
+use cfi_gen::{MAX_COUNT, MIN_COUNT};
 use cfi_text::{read_dec, read_small_dec};
 
 // The number of modules that the word says.

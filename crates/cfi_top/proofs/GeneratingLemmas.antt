@@ -4,7 +4,7 @@ use Rattle.std.specs.Prelude.{◌≢◌, slice_get}
 use Rattle.cfi_commands.specs.declared.fault.CommandFault.{CommandFault}
 use Rattle.cfi_commands.specs.declared.fault.CommandFault.TheVariants.{File, Together, Memory}
 use Rattle.cfi_commands.specs.Files.{IsFilesFault}
-use Rattle.cfi_draw.specs.Plan.{plan_text}
+use Rattle.cfi_gen.specs.Plan.{plan_text}
 use Rattle.cfi_drive.specs.Concluded.{Conclusion}
 use Rattle.cfi_gen.specs.Generated.{AreGenerated, IsGenerateFault}
 use Rattle.cfi_gen.specs.Measured.{IsMeasure}
@@ -13,7 +13,7 @@ use Rattle.cfi_plan.specs.declared.plan.Plan.{Plan}
 use Rattle.cfi_plan.specs.declared.plan.PlanModule.{PlanModule}
 use Rattle.cfi_plan.specs.Plan.{IsPlan}
 use Rattle.cfi_plan.specs.Reading.{plan_in}
-use Rattle.cfi_summary.specs.declared.summary_text.Measure.{Measure}
+use Rattle.cfi_gen.specs.declared.summary_text.Measure.{Measure}
 use Rattle.cfi_top.specs.declared.answer.Answer.{Answer}
 use Rattle.cfi_top.specs.declared.answer.Answer.TheVariants as answers
 use Rattle.cfi_top.specs.Generating.{plan_name}

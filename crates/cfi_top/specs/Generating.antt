@@ -4,8 +4,8 @@ use Rattle.cfi_commands.specs.declared.fault.CommandFault.TheVariants.{File}
 use Rattle.cfi_commands.specs.declared.refusal.Refusal.{Refusal}
 use Rattle.cfi_commands.specs.Files.{IsFilesFault}
 use Rattle.cfi_commands.specs.Modules.{AreModuleFiles}
-use Rattle.cfi_draw.specs.Plan.{plan_text}
-use Rattle.cfi_draw.specs.Source.{file_name}
+use Rattle.cfi_gen.specs.Plan.{plan_text}
+use Rattle.cfi_gen.specs.Source.{file_name}
 use Rattle.cfi_drive.specs.Concluded.{Conclusion, IsConcluded}
 use Rattle.cfi_gen.specs.Generated.{AreGenerated, IsFirstRefusedDrawn}
 use Rattle.cfi_gen.specs.Measured.{IsMeasure}
@@ -13,8 +13,8 @@ use Rattle.cfi_outside.specs.Plans.{files_of}
 use Rattle.cfi_plan.specs.declared.plan.Plan.{Plan}
 use Rattle.cfi_plan.specs.Reading.{plan_in}
 use Rattle.cfi_report.specs.Report.{IsReport}
-use Rattle.cfi_summary.specs.declared.summary_text.Measure.{Measure}
-use Rattle.cfi_summary.specs.Summary.{summary_text}
+use Rattle.cfi_gen.specs.declared.summary_text.Measure.{Measure}
+use Rattle.cfi_gen.specs.Summary.{summary_text}
 use Rattle.cfi_top.specs.Running.{RefusesRunOf}
 
 -- ---- what it has come to

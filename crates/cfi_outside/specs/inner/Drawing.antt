@@ -1,6 +1,6 @@
 -- The number of drawn modules that a word says, and the command that two words make.
 use Rattle.std.specs.Prelude.{ℕ, List, Option, Some, None, ◌&&◌, nat_le, if◌then◌else◌}
-use Rattle.cfi_draw.specs.declared.shape.TheConstants.{MAX_COUNT, MIN_COUNT}
+use Rattle.cfi_gen.specs.declared.shape.TheConstants.{MAX_COUNT, MIN_COUNT}
 use Rattle.cfi_text.specs.Decimal.{small_number_in}
 use Rattle.cfi_outside.specs.declared.command.Command.{Command}
 use Rattle.cfi_outside.specs.declared.command.Command.TheVariants.{Gen}

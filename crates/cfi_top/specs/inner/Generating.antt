@@ -2,9 +2,9 @@
 use Rattle.std.specs.Prelude.{◌≡◌, ℕ, ⊤}
 use Rattle.cfi_commands.specs.declared.fault.CommandFault.{CommandFault}
 use Rattle.cfi_commands.specs.declared.fault.CommandFault.TheVariants.{File, Together, Memory}
-use Rattle.cfi_draw.specs.Source.{file_name}
-use Rattle.cfi_summary.specs.declared.summary_text.Measure.{Measure}
-use Rattle.cfi_summary.specs.Summary.{summary_text}
+use Rattle.cfi_gen.specs.Source.{file_name}
+use Rattle.cfi_gen.specs.declared.summary_text.Measure.{Measure}
+use Rattle.cfi_gen.specs.Summary.{summary_text}
 use Rattle.cfi_top.specs.declared.answer.Answer.{Answer}
 use Rattle.cfi_top.specs.declared.answer.Answer.TheVariants as answers
 

@@ -1,6 +1,6 @@
 use Rattle.std.proofs.Common.{◌≡◌, length, arith, rules}
 use Rattle.cfi_word.specs.declared.map.TheConstants.{FIRST_BASE}
-use Rattle.cfi_gen.proofs.SizeLemmas.{words_last}
+use Rattle.cfi_gen.proofs.MeasureLemmas.{words_last}
 use Rattle.cfi_gen.proofs.measure.words_of.Goals as goal
 
 -- the last one ends behind the first word

@@ -1,3 +1,0 @@
-mod DrawsLemmas
-mod LineLemmas
-pub mod SizeLemmas

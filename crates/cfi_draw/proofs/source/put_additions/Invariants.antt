@@ -1,9 +1,0 @@
-use Rattle.std.proofs.Common.{◌≡◌, ◌++◌, take, flat_map}
-use Rattle.std.specs.Prelude.{string_bytes}
-use Rattle.cfi_draw.specs.Source.{addition}
-use Rattle.cfi_draw.proofs.source.put_additions.Given as goal
-
--- the lines so far
-abbrev pub invariant-loop-constant : goal.invariant-loop-constant
-invariant-loop-constant l =
-    string_bytes l.text ≡ string_bytes l.fn.text ++ flat_map addition (take l.constant-index l.constants)

@@ -1,4 +1,0 @@
-pub mod Draws
-pub mod Drawn
-pub mod Source
-pub mod Plan
