@@ -4,7 +4,7 @@ use Rattle.std.proofs.lemmas.Bool.Decides.{nat_tests}
 use Rattle.elf_write.specs.Contents.{name_table, symbol_entry, symbol_name_place, null_entry, symbol_table, rela_entry, relas_of}
 use Rattle.elf_write.specs.File.{padding, padded, section_place, part_header, file_header, bytes_of}
 use Rattle.cfi_word.specs.declared.limits.TheConstants.{MAX_FILE_BYTES}
-use Rattle.cfi_outside.specs.Reading.{IsShort}
+use Rattle.cfi_request.specs.Reading.{IsShort}
 use Rattle.cfi_file_law.specs.Example.{call_made}
 use Rattle.cfi_file_law.specs.LinkedExample.{linked_output}
 use Rattle.cfi_file_law.specs.SourceExample.{return_object}

@@ -6,11 +6,11 @@ use Rattle.cfi_io.specs.Count.{Rose}
 use Rattle.cfi_io.specs.Files.{Files}
 use Rattle.cfi_io.specs.Seen.{ShelfView}
 use Rattle.cfi_io.specs.Told.{WhereTold}
-use Rattle.cfi_outside.specs.Reading.{IsShort, AreRead, IsUnread, IsFound}
-use Rattle.cfi_outside.specs.declared.reading.Cause.{Cause}
-use Rattle.cfi_outside.specs.declared.reading.Cause.TheVariants.{Failed, Absent, TooLong}
-use Rattle.cfi_outside.specs.declared.reading.Unread.{Unread}
-use Rattle.cfi_outside.proofs.ReadingLemmas.{one_file}
+use Rattle.cfi_request.specs.Reading.{IsShort, AreRead, IsUnread, IsFound}
+use Rattle.cfi_request.specs.declared.reading.Cause.{Cause}
+use Rattle.cfi_request.specs.declared.reading.Cause.TheVariants.{Failed, Absent, TooLong}
+use Rattle.cfi_request.specs.declared.reading.Unread.{Unread}
+use Rattle.cfi_request.proofs.ReadingLemmas.{one_file}
 use Rattle.cfi_file_law.specs.Told.{Tells}
 
 -- the one name at a place of a list of one

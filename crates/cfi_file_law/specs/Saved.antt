@@ -5,7 +5,7 @@ use Rattle.cfi_aux.specs.declared.placed.Placed.{Placed}
 use Rattle.cfi_place.specs.declared.room.Room.{Room}
 use Rattle.cfi_place.specs.Names.{Names}
 use Rattle.cfi_place.specs.Placed.{IsRoom, IsPlaced}
-use Rattle.cfi_outside.specs.Reading.{IsShort}
+use Rattle.cfi_request.specs.Reading.{IsShort}
 use Rattle.cfi_commands.specs.Reading.{IsModuleFile}
 use Rattle.cfi_commands.specs.Instrumenting.{IsInstrumentedFile}
 

@@ -3,9 +3,9 @@
 ghost use Rattle.std.specs.Prelude.{◌≡◌, ◌≢◌, ℕ, ◌+◌, ◌<◌, ◌^◌, true, false, List, [], ◌∷◌, length, All, Result, Ok, Err};
 ghost use Rattle.cfi_io.specs.Count.{Rose};
 ghost use Rattle.cfi_io.specs.Seen.{ShelfView};
-ghost use Rattle.cfi_outside.specs.Reading.{IsFound, IsShort};
-ghost use Rattle.cfi_outside.specs.declared.reading.Cause.TheVariants.{TooLong};
-ghost use Rattle.cfi_outside.specs.declared.reading.Unread.{Unread};
+ghost use Rattle.cfi_request.specs.Reading.{IsFound, IsShort};
+ghost use Rattle.cfi_request.specs.declared.reading.Cause.TheVariants.{TooLong};
+ghost use Rattle.cfi_request.specs.declared.reading.Unread.{Unread};
 ghost use Rattle.elf_read.specs.Fault.{IsObject};
 ghost use Rattle.cfi_aux.specs.declared.modules.Module.{Module};
 ghost use Rattle.cfi_aux.specs.declared.placed.Placed.{Placed};

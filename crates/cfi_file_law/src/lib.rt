@@ -1,6 +1,6 @@
 //! What the files that `asm`, `instrument`, `stub` and `link` save are read as.
 //!
-//! Stands on `cfi_commands`, `cfi_outside`, `cfi_made_law`, `cfi_instr_law` and what these stand on; nothing stands on
+//! Stands on `cfi_commands`, `cfi_request`, `cfi_made_law`, `cfi_instr_law` and what these stand on; nothing stands on
 //! it. Proved: a file that a shelf tells is read as it is where it is short enough, and else refused as too long; such
 //! a file that `asm` saves is read as the object that was made, and one that `instrument`, `stub` or `link` saves as the
 //! module, with relocations of text before those of data, and an instrumented one has no fault at its place but jumps

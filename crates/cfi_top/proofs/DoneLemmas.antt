@@ -2,20 +2,20 @@
 use Rattle.std.proofs.Common.{◌≡◌, ℕ, Bool, true, false, List, [], ◌∷◌, Option, Some, None, IfSome, inl, inr, arith, refl, sym, ap, subst, ◌∙◌}
 use Rattle.std.specs.Prelude.{◌==◌, if◌then◌else◌}
 use Rattle.cfi_drive.specs.Concluded.{Conclusion}
-use Rattle.cfi_outside.specs.declared.command.Command.{Command}
-use Rattle.cfi_outside.specs.declared.command.Command.TheVariants as commands
+use Rattle.cfi_request.specs.declared.command.Command.{Command}
+use Rattle.cfi_request.specs.declared.command.Command.TheVariants as commands
 use Rattle.cfi_top.specs.declared.answer.Answer.{Answer}
 use Rattle.cfi_top.specs.declared.answer.Answer.TheVariants as answers
-use Rattle.cfi_outside.specs.declared.output.TheConstants.{DONE}
+use Rattle.cfi_request.specs.declared.output.TheConstants.{DONE}
 use Rattle.cfi_top.specs.Answer.{output_of, run_in, kept_at}
-use Rattle.cfi_outside.specs.Command.{IsCommand, IsCommandLine}
-use Rattle.cfi_outside.specs.Outside.{IsWrittenWhole}
+use Rattle.cfi_request.specs.Command.{IsCommand, IsCommandLine}
+use Rattle.cfi_request.specs.Outside.{IsWrittenWhole}
 use Rattle.cfi_io.specs.Seen.{ShelfView, SinkView}
 use Rattle.cfi_top.specs.Outcome.{IsMade, IsAllRead, IsWorked, IsAnswer}
 use Rattle.cfi_top.specs.Running.{RunsGuests}
 use Rattle.cfi_top.specs.Top.{Ends, Runs}
-use Rattle.cfi_outside.proofs.CommandLemmas.{one_command}
-use Rattle.cfi_outside.proofs.ReadingLemmas.{unread_least}
+use Rattle.cfi_request.proofs.CommandLemmas.{one_command}
+use Rattle.cfi_request.proofs.ReadingLemmas.{unread_least}
 
 -- a command was done: its inputs had these bytes, and what it makes of them was delivered whole
 pub record HasDone (command : Command) (shelf shelf' : ShelfView) (sink sink' : SinkView) (run : Option Conclusion)

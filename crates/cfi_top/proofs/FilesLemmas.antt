@@ -6,20 +6,20 @@ use Rattle.cfi_io.specs.Count.{Rose}
 use Rattle.cfi_io.specs.Files.{Files}
 use Rattle.cfi_io.specs.Told.{WhereKeptTold}
 use Rattle.cfi_commands.specs.declared.refusal.Refusal.{Refusal}
-use Rattle.cfi_outside.specs.declared.command.Command.{Command}
+use Rattle.cfi_request.specs.declared.command.Command.{Command}
 use Rattle.cfi_top.specs.declared.answer.Answer.{Answer}
 use Rattle.cfi_top.specs.declared.answer.Answer.TheVariants as answers
-use Rattle.cfi_outside.specs.declared.output.TheConstants.{DONE, WRITE_FAULT, MEMORY}
+use Rattle.cfi_request.specs.declared.output.TheConstants.{DONE, WRITE_FAULT, MEMORY}
 use Rattle.cfi_top.specs.Answer.{output_of}
-use Rattle.cfi_outside.specs.Command.{IsCommand, inputs_of, more_of}
-use Rattle.cfi_outside.specs.Outside.{IsWrittenWhole, IsBroken, status_of}
+use Rattle.cfi_request.specs.Command.{IsCommand, inputs_of, more_of}
+use Rattle.cfi_request.specs.Outside.{IsWrittenWhole, IsBroken, status_of}
 use Rattle.cfi_io.specs.Seen.{ShelfView, SinkView}
 use Rattle.cfi_io.specs.declared.undone.Undone.{Undone}
 use Rattle.cfi_top.specs.Outcome.{Refuses, IsUnrefused, IsAllRead, IsAnswer}
 use Rattle.cfi_top.specs.Top.{Ends, IsSavedBy, Saves, IsValid, IsSteady}
-use Rattle.cfi_outside.proofs.CommandLemmas.{one_command}
-use Rattle.cfi_outside.proofs.OutsideLemmas.{kept_same, kept_puts, kept_part}
-use Rattle.cfi_outside.proofs.ReadingLemmas.{same_files, unread_most, unread_unsteady}
+use Rattle.cfi_request.proofs.CommandLemmas.{one_command}
+use Rattle.cfi_request.proofs.OutsideLemmas.{kept_same, kept_puts, kept_part}
+use Rattle.cfi_request.proofs.ReadingLemmas.{same_files, unread_most, unread_unsteady}
 use Rattle.cfi_top.proofs.UnreadLemmas.{why_of}
 use Rattle.cfi_top.proofs.TopLemmas.{saves_of}
 

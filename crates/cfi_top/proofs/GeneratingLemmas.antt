@@ -8,7 +8,7 @@ use Rattle.cfi_gen.specs.Plan.{plan_text}
 use Rattle.cfi_drive.specs.Concluded.{Conclusion}
 use Rattle.cfi_gen.specs.Generated.{AreGenerated, IsGenerateFault}
 use Rattle.cfi_gen.specs.Measured.{IsMeasure}
-use Rattle.cfi_outside.specs.declared.command.Command.TheVariants as commands
+use Rattle.cfi_request.specs.declared.command.Command.TheVariants as commands
 use Rattle.cfi_plan.specs.declared.plan.Plan.{Plan}
 use Rattle.cfi_plan.specs.declared.plan.PlanModule.{PlanModule}
 use Rattle.cfi_plan.specs.Plan.{IsPlan}

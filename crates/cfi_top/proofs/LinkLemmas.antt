@@ -5,9 +5,9 @@ use Rattle.std.proofs.lemmas.List.Elements.{All-weaker}
 use Rattle.cfi_commands.specs.declared.refusal.Refusal.{Refusal}
 use Rattle.cfi_commands.specs.declared.refusal.Refusal.TheVariants.{Link}
 use Rattle.cfi_commands.specs.Modules.{IsShortFile, IsFirstBadFile}
-use Rattle.cfi_outside.specs.declared.command.Command.TheVariants as commands
+use Rattle.cfi_request.specs.declared.command.Command.TheVariants as commands
 use Rattle.cfi_commands.proofs.FileLemmas.{some_stands, some_within}
-use Rattle.cfi_outside.specs.Reading.{IsShort}
+use Rattle.cfi_request.specs.Reading.{IsShort}
 use Rattle.cfi_top.specs.Outcome.{Refuses}
 
 -- files that the program reads are short enough to be modules

@@ -5,19 +5,19 @@ use Rattle.std.specs.Io.KnownBytes.{Appends}
 use Rattle.cfi_drive.specs.Concluded.{Conclusion}
 use Rattle.cfi_io.specs.Files.{Puts}
 use Rattle.cfi_io.specs.Told.{WhereKeptTold}
-use Rattle.cfi_outside.specs.declared.command.Command.TheVariants as commands
+use Rattle.cfi_request.specs.declared.command.Command.TheVariants as commands
 use Rattle.cfi_top.specs.declared.answer.Answer.{Answer}
 use Rattle.cfi_top.specs.declared.answer.Answer.TheVariants as answers
-use Rattle.cfi_outside.specs.declared.output.TheConstants.{DONE}
+use Rattle.cfi_request.specs.declared.output.TheConstants.{DONE}
 use Rattle.cfi_top.specs.Answer.{output_of, run_in}
-use Rattle.cfi_outside.specs.Command.{IsCommand, more_of}
-use Rattle.cfi_outside.specs.Outside.{Holds, IsWrittenWhole}
+use Rattle.cfi_request.specs.Command.{IsCommand, more_of}
+use Rattle.cfi_request.specs.Outside.{Holds, IsWrittenWhole}
 use Rattle.cfi_io.specs.Seen.{ShelfView, SinkView}
-use Rattle.cfi_outside.specs.Plans.{named_files, named_files_and, run_files}
-use Rattle.cfi_outside.specs.Reading.{AreRead}
+use Rattle.cfi_request.specs.Plans.{named_files, named_files_and, run_files}
+use Rattle.cfi_request.specs.Reading.{AreRead}
 use Rattle.cfi_top.specs.Outcome.{IsMade}
 use Rattle.cfi_top.specs.Top.{Ends, HasRun, HasGenerated, HasSimulated, HasListed, HasAssembled, HasInstrumented, HasStubbed, HasLinked, HasVerified, HasGraphed}
-use Rattle.cfi_outside.proofs.ReadingLemmas.{one_file}
+use Rattle.cfi_request.proofs.ReadingLemmas.{one_file}
 use Rattle.cfi_top.proofs.DoneLemmas.{command_done}
 
 module _ (input bytes : List ℕ) (shelf shelf' : ShelfView) (sink sink' : SinkView)

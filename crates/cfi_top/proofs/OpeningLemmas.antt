@@ -11,7 +11,7 @@ use Rattle.cfi_commands.specs.declared.refusal.Refusal.TheVariants as refusals
 use Rattle.cfi_commands.specs.Modules.{AreModuleFiles, IsModulesFault}
 use Rattle.cfi_commands.specs.Reading.{IsFileFault}
 use Rattle.cfi_commands.proofs.FileLemmas.{some_stands, some_within}
-use Rattle.cfi_outside.specs.Plans.{files_of}
+use Rattle.cfi_request.specs.Plans.{files_of}
 use Rattle.cfi_ledger.specs.declared.fault.OpenFault.{OpenFault}
 use Rattle.cfi_ledger.specs.declared.fault.OpenFault.TheVariants as opens
 use Rattle.cfi_top.specs.declared.answer.Answer.{Answer}

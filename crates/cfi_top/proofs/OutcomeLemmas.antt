@@ -1,21 +1,21 @@
 -- What the outcome of a command says.
 use Rattle.std.proofs.Common.{◌≡◌, ◌≤◌, ℕ, ◌⊎◌, List, [], ◌∷◌, Option, Some, None, inl, inr, sym, ap, subst, ◌∙◌}
-use Rattle.cfi_outside.specs.declared.command.Command.{Command}
-use Rattle.cfi_outside.specs.declared.command.Command.TheVariants as commands
+use Rattle.cfi_request.specs.declared.command.Command.{Command}
+use Rattle.cfi_request.specs.declared.command.Command.TheVariants as commands
 use Rattle.cfi_top.specs.declared.answer.Answer.{Answer}
 use Rattle.cfi_top.specs.declared.answer.Answer.TheVariants as answers
-use Rattle.cfi_outside.specs.declared.reading.Unread.{Unread}
-use Rattle.cfi_outside.specs.Command.{inputs_of, more_of, saved_name}
-use Rattle.cfi_outside.specs.declared.output.Output.{Output}
+use Rattle.cfi_request.specs.declared.reading.Unread.{Unread}
+use Rattle.cfi_request.specs.Command.{inputs_of, more_of, saved_name}
+use Rattle.cfi_request.specs.declared.output.Output.{Output}
 use Rattle.cfi_drive.specs.Concluded.{Conclusion}
-use Rattle.cfi_outside.specs.declared.output.TheConstants.{MEMORY}
+use Rattle.cfi_request.specs.declared.output.TheConstants.{MEMORY}
 use Rattle.cfi_top.specs.Answer.{output_of, run_in, kept_at}
-use Rattle.cfi_outside.specs.Outside.{IsLater, IsStarved, IsDelivered, KeepsLast}
+use Rattle.cfi_request.specs.Outside.{IsLater, IsStarved, IsDelivered, KeepsLast}
 use Rattle.cfi_io.specs.Seen.{ShelfView, SinkView}
 use Rattle.cfi_top.specs.Outcome.{IsMade, IsAllRead, IsWorked, GoesOn, IsOutcome, IsAnswer}
-use Rattle.cfi_outside.specs.Reading.{AreRead}
+use Rattle.cfi_request.specs.Reading.{AreRead}
 use Rattle.cfi_top.specs.Top.{Ends}
-use Rattle.cfi_outside.proofs.OutsideLemmas.{delivered_since}
+use Rattle.cfi_request.proofs.OutsideLemmas.{delivered_since}
 use Rattle.cfi_top.proofs.UnreadLemmas.{first_later, read_since, stops_since}
 
 -- what stood while the shelf was read stands later too

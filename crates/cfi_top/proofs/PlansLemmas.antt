@@ -17,9 +17,9 @@ use Rattle.cfi_commands.specs.Files.{IsFilesFault}
 use Rattle.cfi_commands.proofs.FileLemmas.{some_stands, fault_within}
 use Rattle.cfi_top.specs.declared.answer.Answer.{Answer}
 use Rattle.cfi_top.specs.declared.answer.Answer.TheVariants as answers
-use Rattle.cfi_outside.specs.declared.command.Command.TheVariants as commands
+use Rattle.cfi_request.specs.declared.command.Command.TheVariants as commands
 use Rattle.cfi_top.specs.Outcome.{RefusesPlan, IsWorked}
-use Rattle.cfi_outside.specs.Plans.{files_in, files_of, named_files}
+use Rattle.cfi_request.specs.Plans.{files_in, files_of, named_files}
 use Rattle.cfi_top.specs.Refused.{IsAmong, IsModuleRefused, plan_refused}
 
 -- the files that the bytes of a plan name are the plan's

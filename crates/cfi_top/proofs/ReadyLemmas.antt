@@ -1,11 +1,11 @@
 -- What a command comes to where nobody is waited for, and what the run comes to that is made then.
 use Rattle.std.proofs.Common.{◌≡◌, ℕ, List, [], ◌∷◌, sym, subst}
 use Rattle.cfi_io.specs.Seen.{ShelfView}
-use Rattle.cfi_outside.specs.declared.command.Command.{Command}
-use Rattle.cfi_outside.specs.declared.command.Command.TheVariants as commands
-use Rattle.cfi_outside.specs.Command.{IsCommand, inputs_of, more_of}
-use Rattle.cfi_outside.specs.Outside.{IsLater}
-use Rattle.cfi_outside.specs.Reading.{AreRead}
+use Rattle.cfi_request.specs.declared.command.Command.{Command}
+use Rattle.cfi_request.specs.declared.command.Command.TheVariants as commands
+use Rattle.cfi_request.specs.Command.{IsCommand, inputs_of, more_of}
+use Rattle.cfi_request.specs.Outside.{IsLater}
+use Rattle.cfi_request.specs.Reading.{AreRead}
 use Rattle.cfi_top.specs.declared.answer.Answer.{Answer}
 use Rattle.cfi_top.specs.declared.answer.Answer.TheVariants as answers
 use Rattle.cfi_top.specs.declared.work.Outcome.{Outcome}

@@ -17,8 +17,8 @@ use Rattle.cfi_commands.specs.declared.refusal.Refusal.{Refusal}
 use Rattle.cfi_commands.specs.declared.refusal.Refusal.TheVariants as refusals
 use Rattle.cfi_drive.specs.Concluded.{Conclusion, HasReadableNames, IsConcluded}
 use Rattle.cfi_ledger.specs.Opening.{IsOpenFault}
-use Rattle.cfi_outside.specs.declared.command.Command.TheVariants as commands
-use Rattle.cfi_outside.specs.Plans.{begins_as_plan, files_of}
+use Rattle.cfi_request.specs.declared.command.Command.TheVariants as commands
+use Rattle.cfi_request.specs.Plans.{begins_as_plan, files_of}
 use Rattle.cfi_report.specs.Report.{IsReport, report_text}
 use Rattle.cfi_text.specs.Names.{is_name}
 use Rattle.cfi_ledger.specs.declared.fault.OpenFault.{OpenFault}

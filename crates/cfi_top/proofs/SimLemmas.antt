@@ -12,8 +12,8 @@ use Rattle.cfi_plan.specs.Reading.{plan_in}
 use Rattle.cfi_commands.specs.declared.refusal.Refusal.{Refusal}
 use Rattle.cfi_commands.specs.declared.refusal.Refusal.TheVariants as refusals
 use Rattle.cfi_commands.specs.Modules.{AreModuleFiles}
-use Rattle.cfi_outside.specs.declared.command.Command.TheVariants as commands
-use Rattle.cfi_outside.specs.Plans.{files_of, files_and, named_files_and}
+use Rattle.cfi_request.specs.declared.command.Command.TheVariants as commands
+use Rattle.cfi_request.specs.Plans.{files_of, files_and, named_files_and}
 use Rattle.cfi_ledger.specs.declared.fault.OpenFault.{OpenFault}
 use Rattle.cfi_ledger.specs.declared.fault.OpenFault.TheVariants as opens
 use Rattle.cfi_sim.specs.declared.fault.SimFault.{SimFault}

@@ -4,15 +4,15 @@ use Rattle.cfi_drive.specs.Concluded.{Conclusion}
 use Rattle.cfi_io.specs.Count.{Rose}
 use Rattle.cfi_top.specs.declared.answer.Answer.{Answer}
 use Rattle.cfi_top.specs.declared.answer.Answer.TheVariants as answers
-use Rattle.cfi_outside.specs.declared.output.TheConstants.{USAGE, READ_FAULT, NO_FILE, WRITE_FAULT, REFUSED, MEMORY}
+use Rattle.cfi_request.specs.declared.output.TheConstants.{USAGE, READ_FAULT, NO_FILE, WRITE_FAULT, REFUSED, MEMORY}
 use Rattle.cfi_top.specs.Answer.{output_of}
-use Rattle.cfi_outside.specs.Command.{IsCommandLine}
-use Rattle.cfi_outside.specs.Outside.{IsBroken}
+use Rattle.cfi_request.specs.Command.{IsCommandLine}
+use Rattle.cfi_request.specs.Outside.{IsBroken}
 use Rattle.cfi_io.specs.Seen.{ShelfView, SinkView}
 use Rattle.cfi_top.specs.Outcome.{IsAnswer}
 use Rattle.cfi_top.specs.Top.{Ends, IsRefused, IsStopped, IsSavedBy, IsUnsaved}
 use Rattle.cfi_top.proofs.OutcomeLemmas.{saved_is_output}
-use Rattle.cfi_outside.proofs.ReadingLemmas.{failed_rose, missed_rose, unread_least, unread_most}
+use Rattle.cfi_request.proofs.ReadingLemmas.{failed_rose, missed_rose, unread_least, unread_most}
 use Rattle.cfi_top.proofs.UnreadLemmas.{why_of}
 
 -- an answer that is delivered as a file is that of a command that saves it

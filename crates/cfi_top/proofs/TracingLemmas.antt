@@ -11,12 +11,12 @@ use Rattle.cfi_commands.specs.declared.refusal.Refusal.{Refusal}
 use Rattle.cfi_commands.specs.declared.refusal.Refusal.TheVariants as refusals
 use Rattle.cfi_commands.specs.Modules.{AreModuleFiles}
 use Rattle.cfi_io.specs.Seen.{ShelfView, SinkView}
-use Rattle.cfi_outside.specs.declared.command.Command.TheVariants as commands
-use Rattle.cfi_outside.specs.declared.output.Output.{Output}
-use Rattle.cfi_outside.specs.Outside.{IsLater, IsStarved, IsDelivered, KeepsLast}
-use Rattle.cfi_outside.specs.Plans.{files_of, named_files_and}
-use Rattle.cfi_outside.specs.Reading.{AreRead}
-use Rattle.cfi_outside.proofs.OutsideLemmas.{delivered_since}
+use Rattle.cfi_request.specs.declared.command.Command.TheVariants as commands
+use Rattle.cfi_request.specs.declared.output.Output.{Output}
+use Rattle.cfi_request.specs.Outside.{IsLater, IsStarved, IsDelivered, KeepsLast}
+use Rattle.cfi_request.specs.Plans.{files_of, named_files_and}
+use Rattle.cfi_request.specs.Reading.{AreRead}
+use Rattle.cfi_request.proofs.OutsideLemmas.{delivered_since}
 use Rattle.cfi_ledger.specs.declared.fault.OpenFault.{OpenFault}
 use Rattle.cfi_sim.specs.declared.fault.SimFault.{SimFault}
 use Rattle.cfi_sim.specs.declared.fault.SimFault.TheVariants.{Open, BadEvent, Memory}

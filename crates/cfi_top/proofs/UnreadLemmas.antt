@@ -4,17 +4,17 @@ use Rattle.std.specs.Prelude.{◌<◌, length, IsSomeAnd}
 use Rattle.cfi_io.specs.Files.{Files}
 use Rattle.cfi_io.specs.Told.{WhereTold}
 use Rattle.cfi_word.specs.declared.limits.TheConstants.{MAX_FILE_BYTES}
-use Rattle.cfi_outside.specs.declared.command.Command.{Command}
-use Rattle.cfi_outside.specs.declared.reading.Cause.{Cause}
-use Rattle.cfi_outside.specs.declared.reading.Cause.TheVariants.{Failed, Absent, TooLong}
-use Rattle.cfi_outside.specs.declared.reading.Unread.{Unread}
-use Rattle.cfi_outside.specs.Command.{inputs_of, more_of}
+use Rattle.cfi_request.specs.declared.command.Command.{Command}
+use Rattle.cfi_request.specs.declared.reading.Cause.{Cause}
+use Rattle.cfi_request.specs.declared.reading.Cause.TheVariants.{Failed, Absent, TooLong}
+use Rattle.cfi_request.specs.declared.reading.Unread.{Unread}
+use Rattle.cfi_request.specs.Command.{inputs_of, more_of}
 use Rattle.cfi_io.specs.Seen.{ShelfView}
 use Rattle.cfi_top.specs.Outcome.{IsFirstUnread}
-use Rattle.cfi_outside.specs.Reading.{AreRead, IsUnread, StopsAt}
-use Rattle.cfi_outside.specs.Outside.{IsLater}
-use Rattle.cfi_outside.proofs.OutsideLemmas.{rose_earlier}
-use Rattle.cfi_outside.proofs.ReadingLemmas.{stops_later}
+use Rattle.cfi_request.specs.Reading.{AreRead, IsUnread, StopsAt}
+use Rattle.cfi_request.specs.Outside.{IsLater}
+use Rattle.cfi_request.proofs.OutsideLemmas.{rose_earlier}
+use Rattle.cfi_request.proofs.ReadingLemmas.{stops_later}
 
 -- why it is not read
 pub why_of : (command : Command) (shelf shelf' : ShelfView) (unread : Unread)

@@ -9,9 +9,9 @@ use Rattle.std.proofs.lemmas.List.Elements.{All-nil, All-cons}
 use Rattle.cfi_commands.specs.declared.refusal.Refusal.{Refusal}
 use Rattle.cfi_commands.specs.declared.refusal.Refusal.TheVariants.{Bare, Elf, Aux, Instr, Asm, Link, Import, Plan, Place, Verify, Entry, Sim}
 use Rattle.cfi_valid.specs.Opening.{IsFirstUnjoined, IsFirstLost}
-use Rattle.cfi_outside.specs.declared.command.Command.TheVariants.{Run}
-use Rattle.cfi_outside.specs.Reading.{IsShort}
-use Rattle.cfi_outside.proofs.CommandLemmas.{all_of_one}
+use Rattle.cfi_request.specs.declared.command.Command.TheVariants.{Run}
+use Rattle.cfi_request.specs.Reading.{IsShort}
+use Rattle.cfi_request.proofs.CommandLemmas.{all_of_one}
 use Rattle.cfi_plan.specs.Bare.{bare_plan}
 use Rattle.cfi_series.specs.declared.fault.JoinFault.{JoinFault}
 use Rattle.cfi_series.specs.declared.fault.JoinFault.TheVariants as joins

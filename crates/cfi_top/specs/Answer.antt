@@ -2,10 +2,10 @@
 use Rattle.std.specs.Prelude.{ℕ, ◌==◌, List, ◌++◌, codes, if◌then◌else◌, Option, Some, None}
 use Rattle.cfi_top.specs.declared.answer.Answer.{Answer}
 use Rattle.cfi_top.specs.declared.answer.Answer.TheVariants as answers
-use Rattle.cfi_outside.specs.declared.output.Output.{Output}
-use Rattle.cfi_outside.specs.declared.output.Output.TheVariants as outputs
-use Rattle.cfi_outside.specs.declared.output.TheConstants.{DONE, USAGE, REFUSED}
-use Rattle.cfi_outside.specs.Output.{usage_line, unread_output}
+use Rattle.cfi_request.specs.declared.output.Output.{Output}
+use Rattle.cfi_request.specs.declared.output.Output.TheVariants as outputs
+use Rattle.cfi_request.specs.declared.output.TheConstants.{DONE, USAGE, REFUSED}
+use Rattle.cfi_request.specs.Output.{usage_line, unread_output}
 use Rattle.cfi_commands.specs.declared.refusal.Refusal.{Refusal}
 use Rattle.cfi_commands.specs.Refusal.{refusal_text}
 use Rattle.cfi_drive.specs.Concluded.{Conclusion}

@@ -9,7 +9,7 @@ use Rattle.cfi_gen.specs.Source.{file_name}
 use Rattle.cfi_drive.specs.Concluded.{Conclusion, IsConcluded}
 use Rattle.cfi_gen.specs.Generated.{AreGenerated, IsFirstRefusedDrawn}
 use Rattle.cfi_gen.specs.Measured.{IsMeasure}
-use Rattle.cfi_outside.specs.Plans.{files_of}
+use Rattle.cfi_request.specs.Plans.{files_of}
 use Rattle.cfi_plan.specs.declared.plan.Plan.{Plan}
 use Rattle.cfi_plan.specs.Reading.{plan_in}
 use Rattle.cfi_report.specs.Report.{IsReport}

@@ -14,20 +14,20 @@ use Rattle.cfi_commands.specs.Linking.{IsLinkedFile, IsLinkingFault}
 use Rattle.cfi_commands.specs.Stubbing.{IsStubbedFile, IsStubbingFault}
 use Rattle.cfi_commands.specs.Listing.{IsObjectListing, IsObjectFault}
 use Rattle.cfi_report.specs.Report.{report_text}
-use Rattle.cfi_outside.specs.declared.command.Command.{Command}
-use Rattle.cfi_outside.specs.declared.command.Command.TheVariants as commands
+use Rattle.cfi_request.specs.declared.command.Command.{Command}
+use Rattle.cfi_request.specs.declared.command.Command.TheVariants as commands
 use Rattle.cfi_top.specs.declared.answer.Answer.{Answer}
 use Rattle.cfi_top.specs.declared.answer.Answer.TheVariants as answers
-use Rattle.cfi_outside.specs.Command.{IsCommand, IsCommandLine, inputs_of, more_of}
+use Rattle.cfi_request.specs.Command.{IsCommand, IsCommandLine, inputs_of, more_of}
 use Rattle.cfi_io.specs.Seen.{ShelfView}
-use Rattle.cfi_outside.specs.Plans.{files_of}
+use Rattle.cfi_request.specs.Plans.{files_of}
 use Rattle.cfi_top.specs.Opening.{IsNoPlan, IsNamedBad}
 use Rattle.cfi_top.specs.Plans.{IsSaid}
 use Rattle.cfi_top.specs.Generating.{IsGeneratedRun, RefusesGenerated}
 use Rattle.cfi_top.specs.Running.{IsRunOfFile, RefusesRun}
 use Rattle.cfi_top.specs.Simulating.{IsSimOfPlan, RefusesSimulation}
-use Rattle.cfi_outside.specs.Reading.{AreRead, StopsAt}
-use Rattle.cfi_outside.specs.declared.reading.Unread.{Unread}
+use Rattle.cfi_request.specs.Reading.{AreRead, StopsAt}
+use Rattle.cfi_request.specs.declared.reading.Unread.{Unread}
 
 -- the text says that the modules of the plan of these bytes verify; it has the groups of their policy
 abbrev pub IsVerifiedPlan : (bytes : List ℕ) → (files : List (List ℕ)) → (text : List ℕ) → Type 0

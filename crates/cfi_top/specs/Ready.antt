@@ -1,8 +1,8 @@
 -- What the words come to where nobody is waited for.
 use Rattle.std.specs.Prelude.{◌≡◌, ℕ, List}
 use Rattle.cfi_io.specs.Seen.{ShelfView, SinkView}
-use Rattle.cfi_outside.specs.Command.{IsCommand}
-use Rattle.cfi_outside.specs.Outside.{IsLater}
+use Rattle.cfi_request.specs.Command.{IsCommand}
+use Rattle.cfi_request.specs.Outside.{IsLater}
 use Rattle.cfi_top.specs.declared.program.Served.{Served}
 use Rattle.cfi_top.specs.declared.program.Served.TheVariants as served
 use Rattle.cfi_top.specs.declared.work.Ready.{Ready}

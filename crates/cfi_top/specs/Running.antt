@@ -11,9 +11,9 @@ use Rattle.cfi_commands.specs.declared.refusal.Refusal.TheVariants.{Bare, Plan}
 use Rattle.cfi_commands.specs.Modules.{AreModuleFiles}
 use Rattle.cfi_drive.specs.Concluded.{Conclusion, IsConcluded}
 use Rattle.cfi_ledger.specs.Opening.{IsOpenFault}
-use Rattle.cfi_outside.specs.declared.command.Command.{Command}
-use Rattle.cfi_outside.specs.declared.command.Command.TheVariants as commands
-use Rattle.cfi_outside.specs.Plans.{begins_as_plan, files_of}
+use Rattle.cfi_request.specs.declared.command.Command.{Command}
+use Rattle.cfi_request.specs.declared.command.Command.TheVariants as commands
+use Rattle.cfi_request.specs.Plans.{begins_as_plan, files_of}
 use Rattle.cfi_report.specs.Report.{IsReport}
 use Rattle.cfi_top.specs.Opening.{IsNoPlan, RefusesModules, RefusesOpening}
 

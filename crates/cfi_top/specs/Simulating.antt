@@ -6,7 +6,7 @@ use Rattle.cfi_plan.specs.Reading.{plan_in}
 use Rattle.cfi_commands.specs.declared.refusal.Refusal.{Refusal}
 use Rattle.cfi_commands.specs.declared.refusal.Refusal.TheVariants.{Plan, Sim}
 use Rattle.cfi_commands.specs.Modules.{AreModuleFiles}
-use Rattle.cfi_outside.specs.Plans.{files_of}
+use Rattle.cfi_request.specs.Plans.{files_of}
 use Rattle.cfi_sim.specs.declared.fault.SimFault.TheVariants.{Open, BadEvent}
 use Rattle.cfi_sim.specs.declared.report.SimReport.{SimReport}
 use Rattle.cfi_sim.specs.Faults.{IsSimFault}

@@ -12,16 +12,16 @@ use Rattle.cfi_commands.specs.Instrumenting.{IsInstrumentedFile}
 use Rattle.cfi_commands.specs.Stubbing.{IsStubbedFile}
 use Rattle.cfi_commands.specs.Linking.{IsLinkedFile}
 use Rattle.cfi_commands.specs.Listing.{IsObjectListing}
-use Rattle.cfi_outside.specs.declared.command.Command.{Command}
+use Rattle.cfi_request.specs.declared.command.Command.{Command}
 use Rattle.cfi_top.specs.declared.answer.Answer.{Answer}
-use Rattle.cfi_outside.specs.Output.{unread_line, unread_status}
+use Rattle.cfi_request.specs.Output.{unread_line, unread_status}
 use Rattle.cfi_top.specs.Answer.{refused_line, output_of, run_in, kept_at}
-use Rattle.cfi_outside.specs.Command.{IsCommand, inputs_of, more_of, saved_name}
-use Rattle.cfi_outside.specs.Outside.{Holds, HasFailedToSave, IsStarved, IsDelivered}
+use Rattle.cfi_request.specs.Command.{IsCommand, inputs_of, more_of, saved_name}
+use Rattle.cfi_request.specs.Outside.{Holds, HasFailedToSave, IsStarved, IsDelivered}
 use Rattle.cfi_io.specs.Seen.{ShelfView, SinkView}
-use Rattle.cfi_outside.specs.Plans.{named_files, named_files_and, run_files}
-use Rattle.cfi_outside.specs.Reading.{AreRead, IsShort}
-use Rattle.cfi_outside.specs.declared.reading.Unread.{Unread}
+use Rattle.cfi_request.specs.Plans.{named_files, named_files_and, run_files}
+use Rattle.cfi_request.specs.Reading.{AreRead, IsShort}
+use Rattle.cfi_request.specs.declared.reading.Unread.{Unread}
 use Rattle.cfi_top.specs.Outcome.{IsVerifiedPlan, IsGraphOfPlan, Refuses, IsUnrefused, IsAllRead, IsFirstUnread, IsAnswer}
 use Rattle.cfi_top.specs.Generating.{IsGeneratedRun}
 use Rattle.cfi_top.specs.Running.{IsRunOfFile, RunsGuests}

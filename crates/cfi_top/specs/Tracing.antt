@@ -1,17 +1,17 @@
 -- What the words of the program of traces come to: the trace of a plan by a schedule, or why there is none.
 use Rattle.std.specs.Prelude.{◌≡◌, ℕ, ◌⊎◌, List, [], ◌∷◌, All, codes}
 use Rattle.std.specs.Io.KnownBytes.{Appends}
-use Rattle.cfi_args.specs.Words.{IsOperand}
+use Rattle.cfi_request.specs.Words.{IsOperand}
 use Rattle.cfi_aux.specs.declared.modules.Module.{Module}
 use Rattle.cfi_plan.specs.declared.plan.Plan.{Plan as ModulePlan}
 use Rattle.cfi_commands.specs.declared.refusal.Refusal.{Refusal}
 use Rattle.cfi_commands.specs.Modules.{AreModuleFiles}
 use Rattle.cfi_io.specs.Seen.{ShelfView, SinkView}
-use Rattle.cfi_outside.specs.declared.command.Command.TheVariants as commands
-use Rattle.cfi_outside.specs.declared.output.Output.{Output}
-use Rattle.cfi_outside.specs.declared.output.Output.TheVariants as outputs
-use Rattle.cfi_outside.specs.declared.output.TheConstants.{USAGE}
-use Rattle.cfi_outside.specs.Outside.{IsStarved, IsDelivered}
+use Rattle.cfi_request.specs.declared.command.Command.TheVariants as commands
+use Rattle.cfi_request.specs.declared.output.Output.{Output}
+use Rattle.cfi_request.specs.declared.output.Output.TheVariants as outputs
+use Rattle.cfi_request.specs.declared.output.TheConstants.{USAGE}
+use Rattle.cfi_request.specs.Outside.{IsStarved, IsDelivered}
 use Rattle.cfi_sim.specs.Trace.{IsTrace}
 use Rattle.cfi_top.specs.declared.answer.Answer.{Answer}
 use Rattle.cfi_top.specs.declared.answer.Answer.TheVariants as answers

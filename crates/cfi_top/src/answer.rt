@@ -1,11 +1,11 @@
 ghost use Rattle.std.specs.Prelude.{◌≡◌, IfOk, string_bytes};
-ghost use Rattle.cfi_outside.specs.declared.output.Output.TheVariants as outputs;
-ghost use Rattle.cfi_outside.specs.declared.output.TheConstants.{REFUSED};
+ghost use Rattle.cfi_request.specs.declared.output.Output.TheVariants as outputs;
+ghost use Rattle.cfi_request.specs.declared.output.TheConstants.{REFUSED};
 ghost use Rattle.cfi_top.specs.Answer.{output_of, run_in, refused_line};
 
 use cfi_commands::{Refusal, put_refusal};
 use cfi_engine::Concluded;
-use cfi_outside::{DONE, Output, REFUSED, Unread, line_of, unread_output, usage_output};
+use cfi_request::{DONE, Output, REFUSED, Unread, line_of, unread_output, usage_output};
 use cfi_values::{Bytes, Text};
 use std::alloc::{AllocError, Global};
 

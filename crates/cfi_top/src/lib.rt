@@ -2,7 +2,7 @@
 //! waits for nobody: all commands but `run` and `gen`. `traced` is that of a second program, which tells a schedule event by
 //! event.
 //!
-//! Stands on `cfi_outside`, `cfi_commands`, `cfi_gen`, `cfi_engine`, `cfi_sim`, `cfi_bare`, `cfi_plan`, `cfi_report` and what
+//! Stands on `cfi_request`, `cfi_commands`, `cfi_gen`, `cfi_engine`, `cfi_sim`, `cfi_bare`, `cfi_plan`, `cfi_report` and what
 //! these stand on; `cfi` and `cfi_trace` call it. Proved: what is reported of a run was concluded, of the plan and the
 //! modules that the file says, or of those that are drawn of the seed, and is valid; what is printed of a simulation is the text of a valid one; what is listed
 //! is the listing of the object's text, what is said of a plan the stated text of its modules; what is saved is the
@@ -23,7 +23,7 @@ mod running;
 mod tracing;
 mod work;
 
-pub use cfi_outside::{DONE, MEMORY, NO_FILE, READ_FAULT, REFUSED, USAGE, WRITE_FAULT};
+pub use cfi_request::{DONE, MEMORY, NO_FILE, READ_FAULT, REFUSED, USAGE, WRITE_FAULT};
 pub use program::{Ended, Served, serve, top};
 pub use tracing::traced;
 pub use work::Ready;

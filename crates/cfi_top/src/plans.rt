@@ -2,10 +2,10 @@
 
 ghost use Rattle.std.specs.Prelude.{◌≡◌, ◌≤◌, ◌∷◌, [], length, All, IfOk};
 ghost use Rattle.cfi_word.specs.declared.limits.TheConstants.{MAX_FILE_BYTES};
-ghost use Rattle.cfi_outside.specs.declared.command.Command.TheVariants as commands;
+ghost use Rattle.cfi_request.specs.declared.command.Command.TheVariants as commands;
 ghost use Rattle.cfi_top.specs.Outcome.{IsWorked};
-ghost use Rattle.cfi_outside.specs.Plans.{named_files, named_files_and};
-ghost use Rattle.cfi_outside.specs.Reading.{IsShort};
+ghost use Rattle.cfi_request.specs.Plans.{named_files, named_files_and};
+ghost use Rattle.cfi_request.specs.Reading.{IsShort};
 ghost use Rattle.cfi_plan.specs.Plan.{IsPlan};
 ghost use Rattle.cfi_top.specs.inner.Simulating.{IsSimAmong, IsSimRefused, IsSimulated};
 

@@ -1,8 +1,8 @@
 //! Running what is ready.
 
 ghost use Rattle.std.specs.Prelude.{◌≡◌, length, All, IfOk};
-ghost use Rattle.cfi_outside.specs.Command.{HasInputs, inputs_of, more_of};
-ghost use Rattle.cfi_outside.specs.Reading.{IsShort};
+ghost use Rattle.cfi_request.specs.Command.{HasInputs, inputs_of, more_of};
+ghost use Rattle.cfi_request.specs.Reading.{IsShort};
 ghost use Rattle.cfi_top.specs.Outcome.{IsWorked};
 ghost use Rattle.cfi_top.specs.Running.{RunsGuests};
 
@@ -11,7 +11,7 @@ use crate::generating::generated;
 use crate::running::run;
 use crate::work::Ready;
 use cfi_io::Gate;
-use cfi_outside::{Command, only};
+use cfi_request::{Command, only};
 use std::alloc::{AllocError, Global};
 use std::sync::Wait;
 use std::thread::Threads;

@@ -1,12 +1,12 @@
 //! Traces: the words of a second program, of which each is a name.
 
 ghost use Rattle.std.specs.Prelude.{◌≡◌, ◌≤◌, ◌∷◌, [], ℕ, List, length, map, All, IfOk};
-ghost use Rattle.cfi_args.specs.Words.{IsOperand, texts};
+ghost use Rattle.cfi_request.specs.Words.{IsOperand, texts};
 ghost use Rattle.cfi_io.specs.Seen.{ShelfView};
-ghost use Rattle.cfi_outside.specs.declared.command.Command.TheVariants as commands;
-ghost use Rattle.cfi_outside.specs.Outside.{IsLater};
-ghost use Rattle.cfi_outside.specs.Plans.{named_files_and};
-ghost use Rattle.cfi_outside.specs.Reading.{IsShort};
+ghost use Rattle.cfi_request.specs.declared.command.Command.TheVariants as commands;
+ghost use Rattle.cfi_request.specs.Outside.{IsLater};
+ghost use Rattle.cfi_request.specs.Plans.{named_files_and};
+ghost use Rattle.cfi_request.specs.Reading.{IsShort};
 ghost use Rattle.cfi_plan.specs.Plan.{IsPlan};
 ghost use Rattle.cfi_top.specs.Tracing.{IsTraceAnswer, IsTraceOutcome, IsTraced, TraceEnds, trace_output};
 ghost use Rattle.cfi_top.specs.inner.Tracing.{IsPair, IsTracedBy, TraceGoesOn};
@@ -15,10 +15,11 @@ ghost use Rattle.cfi_word.specs.declared.limits.TheConstants.{MAX_FILE_BYTES};
 use crate::answer::{Answer, output_of};
 use crate::plans::sim_refused;
 use crate::refused::{module_refused, plan_refused};
-use cfi_args::split_words;
+use cfi_request::{
+    Command, MEMORY, Output, USAGE, deliver, line_of, only, read_files, split_words, text_of,
+};
 use cfi_commands::read_modules;
 use cfi_io::{Shelf, Sink};
-use cfi_outside::{Command, MEMORY, Output, USAGE, deliver, line_of, only, read_files, text_of};
 use cfi_plan::{Plan, read_plan};
 use cfi_sim::trace;
 use cfi_values::{Bytes, Items, Text};

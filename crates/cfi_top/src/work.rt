@@ -1,8 +1,8 @@
 ghost use Rattle.std.specs.Prelude.{◌≡◌, ◌≤◌, ◌∷◌, [], length, All, IfOk};
 ghost use Rattle.cfi_word.specs.declared.limits.TheConstants.{MAX_FILE_BYTES, MAX_INPUTS};
-ghost use Rattle.cfi_outside.specs.declared.command.Command.TheVariants as commands;
-ghost use Rattle.cfi_outside.specs.Command.{HasInputs, inputs_of, more_of};
-ghost use Rattle.cfi_outside.specs.Reading.{IsShort};
+ghost use Rattle.cfi_request.specs.declared.command.Command.TheVariants as commands;
+ghost use Rattle.cfi_request.specs.Command.{HasInputs, inputs_of, more_of};
+ghost use Rattle.cfi_request.specs.Reading.{IsShort};
 ghost use Rattle.cfi_top.specs.Outcome.{GoesOn, IsWorked, IsOutcome};
 ghost use Rattle.cfi_top.specs.Running.{RunsGuests};
 ghost use Rattle.cfi_top.specs.inner.Working.{ComesTo, IsToRun, IsReadToRun, IsReadyFor};
@@ -12,7 +12,7 @@ use crate::plans::{graph, sim, verify};
 use crate::refused::refused;
 use cfi_commands::{CommandFault, assembled, instrumented, linked, listing_of, stubbed};
 use cfi_io::Shelf;
-use cfi_outside::{Command, only, read_files, text_of};
+use cfi_request::{Command, only, read_files, text_of};
 use cfi_values::{Bytes, Items, Text};
 use std::alloc::{AllocError, Global};
 

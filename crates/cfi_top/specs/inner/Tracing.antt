@@ -2,8 +2,8 @@
 use Rattle.std.specs.Prelude.{◌≡◌, ℕ, List, [], ◌∷◌, Option, Some, None}
 use Rattle.cfi_plan.specs.declared.plan.Plan.{Plan}
 use Rattle.cfi_io.specs.Seen.{ShelfView}
-use Rattle.cfi_outside.specs.Plans.{named_files_and}
-use Rattle.cfi_outside.specs.Reading.{AreRead, StopsAt}
+use Rattle.cfi_request.specs.Plans.{named_files_and}
+use Rattle.cfi_request.specs.Reading.{AreRead, StopsAt}
 use Rattle.cfi_top.specs.declared.answer.Answer.{Answer}
 use Rattle.cfi_top.specs.declared.answer.Answer.TheVariants as answers
 use Rattle.cfi_top.specs.Simulating.{RefusesSimOf}

@@ -1,9 +1,9 @@
 -- What a command comes to where nobody is waited for.
 use Rattle.std.specs.Prelude.{◌≡◌, ℕ, List}
 use Rattle.cfi_io.specs.Seen.{ShelfView}
-use Rattle.cfi_outside.specs.declared.command.Command.{Command}
-use Rattle.cfi_outside.specs.Command.{more_of}
-use Rattle.cfi_outside.specs.Reading.{AreRead}
+use Rattle.cfi_request.specs.declared.command.Command.{Command}
+use Rattle.cfi_request.specs.Command.{more_of}
+use Rattle.cfi_request.specs.Reading.{AreRead}
 use Rattle.cfi_top.specs.declared.answer.Answer.{Answer}
 use Rattle.cfi_top.specs.declared.work.Outcome.{Outcome}
 use Rattle.cfi_top.specs.declared.work.Outcome.TheVariants as outcomes

@@ -1,5 +1,5 @@
 use Rattle.std.proofs.Common.{subst}
-use Rattle.cfi_args.specs.Words.{texts}
+use Rattle.cfi_request.specs.Words.{texts}
 use Rattle.cfi_io.specs.Seen.{SinkView}
 use Rattle.cfi_top.specs.Top.{Ends}
 use Rattle.cfi_top.proofs.program.run_words.Goals as goal

@@ -1,6 +1,6 @@
 use Rattle.std.proofs.Common.{subst}
-use Rattle.cfi_args.specs.Words.{texts}
-use Rattle.cfi_outside.specs.Outside.{IsLater}
+use Rattle.cfi_request.specs.Words.{texts}
+use Rattle.cfi_request.specs.Outside.{IsLater}
 use Rattle.cfi_top.specs.Outcome.{IsAnswer}
 use Rattle.cfi_top.specs.Ready.{IsReady}
 use Rattle.cfi_top.specs.inner.Working.{ComesTo}

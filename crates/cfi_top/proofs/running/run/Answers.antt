@@ -1,6 +1,6 @@
 use Rattle.std.proofs.Common.{◌≡◌, false, rules}
 use Rattle.std.proofs.lemmas.Result.{IfOk-weaker}
-use Rattle.cfi_outside.specs.Plans.{begins_as_plan}
+use Rattle.cfi_request.specs.Plans.{begins_as_plan}
 use Rattle.cfi_top.proofs.RunLemmas.{bare_run}
 use Rattle.cfi_top.proofs.running.run.Goals as goal
 

@@ -5,7 +5,7 @@ use Rattle.cfi_engine.specs.Fault.{IsRunFault}
 use Rattle.cfi_engine.proofs.CodeLemmas.{plan_code}
 use Rattle.cfi_ledger.proofs.PlanLemmas.{plan_starts}
 use Rattle.cfi_ledger.specs.Opening.{IsOpenFault}
-use Rattle.cfi_outside.specs.Plans.{files_of}
+use Rattle.cfi_request.specs.Plans.{files_of}
 use Rattle.cfi_top.specs.Refused.{IsModuleRefused, IsOpeningRefused}
 use Rattle.cfi_top.specs.Running.{RefusesStart}
 use Rattle.cfi_top.proofs.OpeningLemmas.{file_refused, opening_refused}

@@ -1,6 +1,6 @@
 use Rattle.std.proofs.Common.{All, ◌∷◌, map, subst, sym}
-use Rattle.cfi_args.specs.Split.{IsSplit, command_in}
-use Rattle.cfi_args.specs.Words.{IsOperand, texts}
+use Rattle.cfi_request.specs.Split.{IsSplit, command_in}
+use Rattle.cfi_request.specs.Words.{IsOperand, texts}
 use Rattle.cfi_top.proofs.tracing.names_in.Goals as goal
 
 -- each word is an operand

@@ -1,7 +1,7 @@
 use Rattle.std.proofs.Common.{◌≡◌, Ok, [], ◌∷◌, subst, rules}
 use Rattle.std.proofs.lemmas.Result.{IfOk-weaker}
-use Rattle.cfi_outside.specs.Reading.{AreRead, IsFound}
-use Rattle.cfi_outside.specs.Outside.{IsLater}
+use Rattle.cfi_request.specs.Reading.{AreRead, IsFound}
+use Rattle.cfi_request.specs.Outside.{IsLater}
 use Rattle.cfi_top.proofs.TracingLemmas.{one_file, outcome_trace}
 use Rattle.cfi_top.proofs.tracing.trace_files.Goals as goal
 

@@ -1,5 +1,5 @@
-use Rattle.cfi_args.specs.Words.{texts}
-use Rattle.cfi_outside.specs.Outside.{IsLater}
+use Rattle.cfi_request.specs.Words.{texts}
+use Rattle.cfi_request.specs.Outside.{IsLater}
 use Rattle.cfi_top.proofs.tracing.traced.Goals as goal
 
 -- what was read and traced was delivered

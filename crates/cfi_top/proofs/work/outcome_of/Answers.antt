@@ -1,8 +1,8 @@
 use Rattle.std.proofs.Common.{◌≡◌, ◌∙◌, Ok, subst}
 use Rattle.std.proofs.lemmas.Result.{IfOk-weaker}
-use Rattle.cfi_outside.specs.Command.{inputs_of}
-use Rattle.cfi_outside.specs.Reading.{AreRead, IsFound}
-use Rattle.cfi_outside.specs.Outside.{IsLater}
+use Rattle.cfi_request.specs.Command.{inputs_of}
+use Rattle.cfi_request.specs.Reading.{AreRead, IsFound}
+use Rattle.cfi_request.specs.Outside.{IsLater}
 use Rattle.cfi_top.proofs.ReadyLemmas.{comes_out}
 use Rattle.cfi_top.proofs.work.outcome_of.Goals as goal
 

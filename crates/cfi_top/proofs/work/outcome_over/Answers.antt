@@ -1,7 +1,7 @@
 use Rattle.std.proofs.Common.{◌≡◌, ◌∙◌, Ok, subst}
 use Rattle.std.proofs.lemmas.Result.{IfOk-weaker}
-use Rattle.cfi_outside.specs.Command.{more_of}
-use Rattle.cfi_outside.specs.Reading.{AreRead, IsFound}
+use Rattle.cfi_request.specs.Command.{more_of}
+use Rattle.cfi_request.specs.Reading.{AreRead, IsFound}
 use Rattle.cfi_top.proofs.ReadyLemmas.{goes_on}
 use Rattle.cfi_top.proofs.work.outcome_over.Goals as goal
 

@@ -1,4 +1,0 @@
-pub mod OperandLemmas
-pub mod WalkLemmas
-pub mod TakesLemmas
-pub mod SplitLemmas

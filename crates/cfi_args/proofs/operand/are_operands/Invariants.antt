@@ -1,7 +1,0 @@
-use Rattle.std.proofs.Common.{All, take}
-use Rattle.cfi_args.proofs.OperandLemmas.{IsNone}
-use Rattle.cfi_args.proofs.operand.are_operands.Given as goal
-
--- no word so far is an option
-abbrev pub invariant-loop-word : goal.invariant-loop-word
-invariant-loop-word l = All IsNone (take l.word-index l.words)

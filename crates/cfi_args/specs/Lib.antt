@@ -1,3 +1,0 @@
-pub mod Parse
-pub mod Split
-pub mod Words

@@ -1,6 +1,0 @@
-use Rattle.std.proofs.Common.{◌≡◌, map, take}
-use Rattle.cfi_outside.proofs.names.names_of.Given as goal
-
--- the words so far are names
-abbrev pub invariant-loop-word : goal.invariant-loop-word
-invariant-loop-word l = l.names.items ≡ map (λ word. word.now) (take l.word-index l.words)

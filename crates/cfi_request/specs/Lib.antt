@@ -1,0 +1,9 @@
+pub mod Parse
+pub mod Split
+pub mod Words
+pub mod Plans
+pub mod Command
+pub mod Output
+pub mod Outside
+pub mod Reading
+pub mod inner
