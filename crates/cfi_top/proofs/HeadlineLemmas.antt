@@ -11,10 +11,10 @@ use Rattle.cfi_model.specs.State.{State, opened}
 use Rattle.cfi_model.specs.Words.{Tables}
 use Rattle.cfi_model.proofs.FixedLemmas.{opened_ready}
 use Rattle.cfi_model.proofs.ShownLemmas.{raw_shows}
-use Rattle.cfi_moments.specs.Window.{HasRunInForce}
-use Rattle.cfi_moments.proofs.InForceLemmas.{in_force_run}
-use Rattle.cfi_moments.proofs.MomentLemmas.{confined}
-use Rattle.cfi_moments.proofs.RunLemmas.{step_ready}
+use Rattle.cfi_model_law.specs.Window.{HasRunInForce}
+use Rattle.cfi_model_law.proofs.InForceLemmas.{in_force_run}
+use Rattle.cfi_model_law.proofs.MomentLemmas.{confined}
+use Rattle.cfi_model_law.proofs.RunLemmas.{step_ready}
 use Rattle.cfi_part.specs.Ran.{IsHistoryOf, IsRunOf}
 use Rattle.cfi_report.specs.declared.report.GuestPart.{GuestPart}
 use Rattle.cfi_valid.specs.Course.{Course}

@@ -1,5 +1,5 @@
 -- What a check makes of an edge: the policy that it asks is that of the one epoch of which both words are that it has
--- loaded. In its window this epoch is in force (`cfi_moments`, specs/Window.antt).
+-- loaded. In its window this epoch is in force (`cfi_model_law`, specs/Window.antt).
 use Rattle.std.specs.Prelude.{◌≡◌, ℕ, ℤ, Bool, true, List}
 use Rattle.cfi_unit.specs.declared.unit.Unit.TheVariants as units
 use Rattle.cfi_model.specs.Effect.{is_in_code}

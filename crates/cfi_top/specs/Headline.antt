@@ -13,7 +13,7 @@ use Rattle.cfi_model.specs.Run.{Take, run_of}
 use Rattle.cfi_model.specs.Shows.{End, IsStep, Shows, ends_along}
 use Rattle.cfi_model.specs.State.{State}
 use Rattle.cfi_model.specs.Words.{Tables}
-use Rattle.cfi_moments.specs.Moments.{IsConfined}
+use Rattle.cfi_model_law.specs.Moments.{IsConfined}
 use Rattle.cfi_part.specs.Ran.{IsHistoryOf, IsRunOf}
 use Rattle.cfi_report.specs.declared.report.GuestPart.{GuestPart}
 use Rattle.cfi_valid.specs.Course.{Course}

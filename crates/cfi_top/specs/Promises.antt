@@ -7,8 +7,8 @@ use Rattle.cfi_model.specs.Came.{loads_in, takes_in}
 use Rattle.cfi_model.specs.Run.{run_of}
 use Rattle.cfi_model.specs.Shows.{Shows, ends_along}
 use Rattle.cfi_model.specs.TableMoments.{AreTimed}
-use Rattle.cfi_moments.specs.Window.{HasRunInForce}
-use Rattle.cfi_moments.specs.Moments.{Fetches, HasEntered, StoresInside, at_moment, fetched}
+use Rattle.cfi_model_law.specs.Window.{HasRunInForce}
+use Rattle.cfi_model_law.specs.Moments.{Fetches, HasEntered, StoresInside, at_moment, fetched}
 use Rattle.cfi_part.specs.Ran.{IsHistoryOf, IsRunOf}
 use Rattle.cfi_report.specs.declared.report.GuestPart.{GuestPart}
 use Rattle.cfi_valid.specs.Course.{Course}

@@ -22,7 +22,7 @@ use Rattle.cfi_model.proofs.AdvanceLemmas.{first_access, next_access, goes_on, s
 use Rattle.cfi_model.proofs.LawLemmas.{Begun, At}
 use Rattle.cfi_model.proofs.PlaceLemmas.{idle_lies}
 use Rattle.cfi_model.proofs.StuckLemmas.{raw_has_steps}
-use Rattle.cfi_moments.specs.Moments.{at_moment, Fetches, HasEntered, StoresInside, IsConfined, fetched}
+use Rattle.cfi_model_law.specs.Moments.{at_moment, Fetches, HasEntered, StoresInside, IsConfined, fetched}
 
 -- ---- moments, one after the other
 

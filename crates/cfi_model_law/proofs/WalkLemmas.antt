@@ -24,10 +24,10 @@ use Rattle.cfi_model.proofs.CheckWalk.{check_begins}
 use Rattle.cfi_model.proofs.FetchLemmas.{first_place, start_raw}
 use Rattle.cfi_model.proofs.LawLemmas.{At, Begun, Ended as UnitEnded}
 use Rattle.cfi_model.proofs.PlaceLemmas.{idle_lies}
-use Rattle.cfi_moments.specs.Window.{AsksInForce}
-use Rattle.cfi_moments.proofs.CheckTryLemmas.{keeps_both, try_goes_on, waits_for_none}
-use Rattle.cfi_moments.proofs.TryLemmas.{HasBoth, HoldsTry}
-use Rattle.cfi_moments.proofs.WindowLemmas.{window_is}
+use Rattle.cfi_model_law.specs.Window.{AsksInForce}
+use Rattle.cfi_model_law.proofs.CheckTryLemmas.{keeps_both, try_goes_on, waits_for_none}
+use Rattle.cfi_model_law.proofs.TryLemmas.{HasBoth, HoldsTry}
+use Rattle.cfi_model_law.proofs.WindowLemmas.{window_is}
 
 module _ (t : Tables) (is : IsTables t) (h : History) (code : List ℕ) (known : IsHistory h code) (of : IsOfTables t h code)
     (all : List Access) (timed : AreTimed t all) where

@@ -9,7 +9,7 @@ use Rattle.cfi_model.specs.Raw.{Raw}
 use Rattle.cfi_model.specs.Run.{Take, Word}
 use Rattle.cfi_model.specs.State.{State}
 use Rattle.cfi_model.proofs.CheckPlaces.{CheckPlace, Aimed, Split, Far, Trying, Pointed, AskedBary, FoundBary, Tabled, Added, AskedTary, FoundTary, Differed, Compared, Lowered, Refused, Allowed, Values, check_raw, Found, Neither, SlotWord, BothWords, FollowsBy, found_at}
-use Rattle.cfi_moments.proofs.TryLemmas.{HoldsTry, both_stay, slot_loaded, slot_stays, target_loaded}
+use Rattle.cfi_model_law.proofs.TryLemmas.{HoldsTry, both_stay, slot_loaded, slot_stays, target_loaded}
 
 -- a word that is taken
 same_word : (a b : ℕ) → Word a ≡ Word b → a ≡ b

@@ -20,8 +20,8 @@ use Rattle.cfi_model.proofs.EndLemmas.{effect_units, none_ended, one_ended}
 use Rattle.cfi_model.proofs.FixedLemmas.{opened_ready}
 use Rattle.cfi_model.proofs.KeptLemmas.{is_epoch, not_epoch}
 use Rattle.cfi_model.proofs.ShownLemmas.{shows_running, shows_units}
-use Rattle.cfi_moments.specs.Window.{HasRunInForce, RunInForce}
-use Rattle.cfi_moments.proofs.WalkLemmas.{EndsInForce, IsIn, Runs, Then, load_then, running, served_then, served_waits}
+use Rattle.cfi_model_law.specs.Window.{HasRunInForce, RunInForce}
+use Rattle.cfi_model_law.proofs.WalkLemmas.{EndsInForce, IsIn, Runs, Then, load_then, running, served_then, served_waits}
 
 -- what a guest asks for is not EPOCH
 first_code : (c : ℕ) (wait : Option Wait) (r : Raw) (word : ℕ) → AsksFor c wait r word → FIRST_CODE ≤ word

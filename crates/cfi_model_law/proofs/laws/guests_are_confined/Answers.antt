@@ -1,8 +1,8 @@
 use Rattle.cfi_model.proofs.FixedLemmas.{opened_ready}
-use Rattle.cfi_moments.proofs.MomentLemmas.{confined}
+use Rattle.cfi_model_law.proofs.MomentLemmas.{confined}
 use Rattle.cfi_model.specs.Raw.{raw_opened}
 use Rattle.cfi_model.specs.State.{opened}
-use Rattle.cfi_moments.proofs.laws.guests_are_confined.Goals as goal
+use Rattle.cfi_model_law.proofs.laws.guests_are_confined.Goals as goal
 
 pub returns : goal.returns
 returns c = λ h code known number entry fills starts takes along.

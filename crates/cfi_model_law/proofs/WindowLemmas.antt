@@ -17,10 +17,10 @@ use Rattle.cfi_model.proofs.InForceLemmas.{force_within, index_within}
 use Rattle.cfi_model.proofs.PhaseLemmas.{same_place}
 use Rattle.cfi_model.proofs.TableLemmas.{force_epoch}
 use Rattle.cfi_model.proofs.TableMomentLemmas.{entry_then, goes_on_at}
-use Rattle.cfi_moments.specs.Force.{AreMoments}
-use Rattle.cfi_moments.specs.Window.{IsWindow}
-use Rattle.cfi_moments.proofs.ForceLemmas.{held}
-use Rattle.cfi_moments.proofs.TryLemmas.{HasBoth, in_first, last_try}
+use Rattle.cfi_model_law.specs.Force.{AreMoments}
+use Rattle.cfi_model_law.specs.Window.{IsWindow}
+use Rattle.cfi_model_law.proofs.ForceLemmas.{held}
+use Rattle.cfi_model_law.proofs.TryLemmas.{HasBoth, in_first, last_try}
 
 module _ (t : Tables) (is : IsTables t) (h : History) (code : List ℕ) (known : IsHistory h code) (of : IsOfTables t h code)
   where

@@ -7,7 +7,7 @@ use Rattle.cfi_model.specs.TableMoments.{IsInForce}
 use Rattle.cfi_model.specs.Words.{Tables, entry_at, epoch_in_force, policy_in_force, word_at}
 use Rattle.cfi_model.proofs.InForceLemmas.{force_rises, bary_epoch, tary_epoch, force_within}
 use Rattle.cfi_model.proofs.TableLemmas.{force_epoch, force_policy}
-use Rattle.cfi_moments.specs.Force.{AreMoments}
+use Rattle.cfi_model_law.specs.Force.{AreMoments}
 
 module _ (early mid late : Tables) (are : AreMoments early mid late) (epoch slot index : ℕ)
     (inside : index < late.code_words) (bary : epoch_in (word_at early (Bary slot)) ≡ epoch)

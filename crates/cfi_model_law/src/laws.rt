@@ -1,9 +1,9 @@
 //! What holds at every moment.
 
-ghost use Rattle.cfi_moments.specs.Force.{TriesHoldPolicies};
-ghost use Rattle.cfi_moments.specs.Moments.{GuestsAreConfined};
-ghost use Rattle.cfi_moments.specs.Ready.{RunsStayReady};
-ghost use Rattle.cfi_moments.specs.Window.{ChecksAskInForce};
+ghost use Rattle.cfi_model_law.specs.Force.{TriesHoldPolicies};
+ghost use Rattle.cfi_model_law.specs.Moments.{GuestsAreConfined};
+ghost use Rattle.cfi_model_law.specs.Ready.{RunsStayReady};
+ghost use Rattle.cfi_model_law.specs.Window.{ChecksAskInForce};
 
 /// At every moment a guest runs a unit that it has entered at its start, and stores in its own data alone.
 pub fn guests_are_confined()

@@ -1,5 +1,0 @@
-use Rattle.cfi_moments.proofs.InForceLemmas.{in_force_run}
-use Rattle.cfi_moments.proofs.laws.checks_ask_in_force.Goals as goal
-
-pub returns : goal.returns
-returns c = in_force_run
