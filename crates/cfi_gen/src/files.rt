@@ -10,8 +10,10 @@ ghost use Rattle.cfi_gen.specs.Generated.{AreMadeFiles, IsMadeFile, IsSourcesFau
 ghost use Rattle.cfi_gen.specs.inner.Fault.{fault_at};
 ghost use Rattle.cfi_word.specs.declared.limits.TheConstants.{MAX_FILE_BYTES};
 
+use crate::lengths::sources_are_short;
+use crate::shape::Drawn;
+use crate::source::source_of;
 use cfi_commands::{CommandFault, assembled, instrumented};
-use crate::{Drawn, source_of, sources_are_short};
 use cfi_made_law::{assembled_are_within_limits, instrumented_are_within_limits};
 use cfi_values::{Bytes, Items};
 use elf_write::laws::limits_fit;

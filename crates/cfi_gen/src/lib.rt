@@ -22,11 +22,8 @@ mod source;
 mod spell;
 mod summary_text;
 
-pub use draws::{STREAM, draw_modules};
 pub use lengths::sources_are_short;
 pub use making::{Generated, generate};
 pub use measure::measure_of;
-pub use plan::plan_of;
-pub use shape::{Drawn, Function, Kind, MAX_CONSTANTS, MAX_COUNT, MAX_FUNCTIONS, MIN_COUNT};
-pub use source::source_of;
+pub use shape::{MAX_COUNT, MIN_COUNT};
 pub use summary_text::{Measure, summary};

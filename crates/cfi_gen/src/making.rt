@@ -9,10 +9,11 @@ ghost use Rattle.cfi_gen.specs.PlanRead.{drawn_plan};
 ghost use Rattle.cfi_plan.specs.Plan.{IsPlan};
 ghost use Rattle.cfi_plan.specs.Reading.{plan_in};
 
+use crate::draws::draw_modules;
 use crate::files::files_of;
 use crate::laws::plans_are_read;
+use crate::plan::plan_of;
 use cfi_commands::CommandFault;
-use crate::{draw_modules, plan_of};
 use cfi_plan::{Plan, PlanFault, read_plan};
 use cfi_values::{Bytes, Items};
 use std::alloc::{AllocError, Global};

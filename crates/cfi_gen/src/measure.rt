@@ -7,11 +7,11 @@ ghost use Rattle.cfi_gen.specs.Measured.{IsMeasure, branches_in, has_targets, wo
 ghost use Rattle.cfi_gen.specs.inner.Series.{IsOfSeries};
 ghost use Rattle.cfi_plan.specs.Plan.{IsPlan};
 
+use crate::summary_text::Measure;
 use cfi_aux::Placed;
 use cfi_commands::{CommandFault, placed_files};
 use cfi_plan::Plan;
 use cfi_policy::{Group, groups};
-use crate::Measure;
 use cfi_values::{Bytes, Items};
 use cfi_word::map::FIRST_BASE;
 use std::alloc::Global;

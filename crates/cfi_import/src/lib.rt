@@ -21,6 +21,4 @@ mod symbols;
 mod texts;
 
 pub use fault::StubFault;
-pub use limit::passed;
-pub use object_sizes::{Sizes, sizes_of};
 pub use stubbing::with_stubs;

@@ -3,8 +3,8 @@
 ghost use Rattle.std.specs.Prelude.{◌≡◌};
 ghost use Rattle.cfi_import.specs.inner.Capped.{sizes_more, sizes_with};
 
+use crate::object_sizes::Sizes;
 use crate::start::{CELL_BYTES, STUB_BYTES, STUB_SYMBOLS, padding};
-use crate::Sizes;
 
 // Sizes with those of so many stubs; what is too much for a number stays at the greatest one.
 fn sizes_more(sizes: Sizes, count: usize) -> Sizes

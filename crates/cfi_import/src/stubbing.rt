@@ -17,6 +17,8 @@ use crate::copies::{
 };
 use crate::fault::StubFault;
 use crate::found::{Imports, find_imports};
+use crate::limit::passed;
+use crate::object_sizes::sizes_of;
 use crate::records::{push_branches, push_functions, push_nodes};
 use crate::relocs::with_relocs;
 use crate::sizes::sizes_with;
@@ -24,7 +26,6 @@ use crate::start::{Start, start_of};
 use crate::symbols::with_symbols;
 use crate::texts::{with_cells, with_texts};
 use cfi_aux::{Module, Records, write_records};
-use crate::{passed, sizes_of};
 use cfi_type_table::{TypeTable, write_types};
 use cfi_values::{Bytes, Items};
 use elf_read::{Name, Object, Relocs, Symbols};

@@ -8,7 +8,8 @@ ghost use Rattle.cfi_instr.specs.Reach.{target_of};
 ghost use Rattle.cfi_instr.specs.inner.Hops.{is_over, after_growth, IsHop, HasLeft, IsMeasured};
 
 use crate::sizes::{REACH_BACK, REACH_ON, offset_at};
-use crate::{Aim, Source};
+use crate::source::Source;
+use crate::target::Aim;
 use elf_read::Symbol;
 use rv_insn::Insn;
 use std::alloc::{AllocError, Global};

@@ -31,8 +31,5 @@ mod text;
 mod units;
 mod words;
 
-pub use check::read_items;
 pub use fault::InstrFault;
 pub use output::instrument;
-pub use source::{Source, is_of_text};
-pub use target::{Aim, named_symbol, offset_from};

@@ -6,8 +6,9 @@ ghost use Rattle.cfi_instr.specs.Sizes.{AreSmall};
 ghost use Rattle.cfi_instr.specs.Moves.{moved_value, moved_symbol, addend_to, addend_in, addend_by, is_of_long, kind_in, offset_in, moved_reloc};
 
 use crate::sizes::{is_long, moved};
+use crate::source::{Source, is_of_text};
+use crate::target::{named_symbol, offset_from};
 use crate::units::distance;
-use crate::{Source, is_of_text, named_symbol, offset_from};
 use elf_read::relocation::{BRANCH, JAL, LO12_I, LO12_S, PCREL_LO12_I, PCREL_LO12_S, is_of_pair};
 use elf_read::{Name, Place, Reloc, Symbol};
 use std::alloc::{AllocError, Global};

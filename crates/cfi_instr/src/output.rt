@@ -10,12 +10,14 @@ ghost use Rattle.cfi_instr.specs.Sizes.{AreSmall};
 ghost use Rattle.cfi_instr.specs.Units.{units_of, AllSpell};
 ghost use Rattle.cfi_instr.specs.Output.{AreMoved, IsObject, IsInstrumented, IsFirstInstrFault};
 
+use crate::check::read_items;
+use crate::fault::InstrFault;
 use crate::moves::{moved_relocs, moved_symbols};
 use crate::reach::least_long;
 use crate::records::{moved_functions, moved_kinds};
+use crate::source::Source;
 use crate::text::words_of;
 use cfi_aux::{Module, Records, write_records};
-use crate::{InstrFault, Source, read_items};
 use cfi_type_table::write_types;
 use cfi_values::{Bytes, Items};
 use elf_read::{Object, Relocs, Symbols};

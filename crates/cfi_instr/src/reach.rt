@@ -7,9 +7,11 @@ ghost use Rattle.cfi_instr.specs.declared.sizes.TheConstants.{MAX_WORDS};
 ghost use Rattle.cfi_instr.specs.Sizes.{is_long, words_before, offsets_of, AreSmall};
 ghost use Rattle.cfi_instr.specs.Reach.{target_of, is_near, reaches, branch_reaches, word_reaches, IsEnough, IsWithin, IsLeast, IsPassed, shorts};
 
+use crate::fault::InstrFault;
 use crate::sizes::{REACH_BACK, REACH_ON, is_long, offset_at, offsets_of};
+use crate::source::Source;
 use crate::stretch::stretch;
-use crate::{Aim, InstrFault, Source};
+use crate::target::Aim;
 use elf_read::Symbol;
 use rv_insn::Insn;
 use std::alloc::Global;

@@ -5,8 +5,8 @@ ghost use Rattle.cfi_instr.specs.Moves.{moved_function, moved_kind};
 ghost use Rattle.cfi_instr.specs.Sizes.{moved};
 
 use crate::sizes::moved;
+use crate::source::Source;
 use cfi_aux::{Function, Kind};
-use crate::Source;
 use cfi_values::Items;
 use elf_read::Name;
 use std::alloc::{AllocError, Global};

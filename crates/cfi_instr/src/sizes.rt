@@ -5,7 +5,8 @@ ghost use Rattle.cfi_instr.specs.Words.{count_of};
 ghost use Rattle.cfi_instr.specs.declared.sizes.TheConstants.{CHECK_WORDS, MAX_WORDS};
 ghost use Rattle.cfi_instr.specs.Sizes.{is_long, item_size, size_at, words_before, moved, offsets_of, AreSmall, IsOver};
 
-use crate::{InstrFault, Source};
+use crate::fault::InstrFault;
+use crate::source::Source;
 use rv_insn::Insn;
 use std::alloc::Global;
 

@@ -10,7 +10,7 @@ ghost use Rattle.cfi_instr.specs.inner.Hops.{AreReady, StaysOrLoses};
 
 use crate::hops::{Hop, after_growth, hops_of};
 use crate::sizes::{LONG_WORDS, MAX_WORDS, REACH_BACK};
-use crate::Source;
+use crate::source::Source;
 use elf_read::Symbol;
 use std::alloc::{AllocError, Global};
 

@@ -8,8 +8,8 @@ ghost use Rattle.cfi_instr.specs.Jumps.{ordinal_of};
 ghost use Rattle.cfi_instr.specs.Sizes.{AreSmall};
 ghost use Rattle.cfi_instr.specs.Units.{units_at, units_of, insn_units, AreUnits, AllSpell};
 
+use crate::source::Source;
 use crate::units::{is_wide, long_jump, over, pair_unit, short_unit};
-use crate::Source;
 use cfi_unit::spell;
 use elf_read::Symbol;
 use rv_insn::Insn;

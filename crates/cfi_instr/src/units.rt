@@ -5,10 +5,10 @@ ghost use Rattle.cfi_instr.specs.Jumps.{ordinal_of};
 ghost use Rattle.cfi_instr.specs.Sizes.{AreSmall};
 ghost use Rattle.cfi_instr.specs.Units.{inverse, distance, displacement_from, unit_of, off_of, short_unit, over, long_jump, is_wide, pair_unit};
 
+use crate::insns::{is_branch, is_linked};
 use crate::reach::target_of;
 use crate::sizes::{is_long, offset_at};
-use crate::Source;
-use crate::insns::{is_branch, is_linked};
+use crate::source::Source;
 use cfi_unit::Unit;
 use elf_read::Symbol;
 use rv_insn::{Cond, Insn};

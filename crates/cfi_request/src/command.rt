@@ -8,7 +8,7 @@ use crate::names::{
     copies_of, named_files, named_files_and, names_of, one_name, run_files, text_of,
 };
 use crate::reading::only;
-use crate::split_words;
+use crate::split::split_words;
 use cfi_values::{Bytes, Items, Text};
 use cfi_word::limits::MAX_INPUTS;
 use std::alloc::{AllocError, Global};

@@ -1,3 +1,4 @@
+mod StepLemmas
 pub mod ExampleLemmas
 pub mod ReachLemmas
 pub mod NumbersLemmas

@@ -21,8 +21,8 @@ use Rattle.cfi_sim.specs.inner.Standing.{Whole, GoesBy, IsUnderWay}
 use Rattle.cfi_sim.specs.inner.Tracing.{HasTold, TellsBy, TellManyBy, TellsLineBy, TracesTo}
 use Rattle.cfi_sim.proofs.FollowLemmas.{follows_fault}
 use Rattle.cfi_sim.proofs.RepeatLemmas.{goes_made}
-use Rattle.cfi_steps.specs.declared.seen.Seen.{Seen}
-use Rattle.cfi_steps.specs.Step.{seen_of}
+use Rattle.cfi_sim.specs.declared.seen.Seen.{Seen}
+use Rattle.cfi_sim.specs.Step.{seen_of}
 use Rattle.cfi_text.specs.Lines.{numbered_lines, statement_of}
 use Rattle.cfi_text.specs.Words.{words_in}
 use Rattle.cfi_world.specs.Turns.{turn_of}

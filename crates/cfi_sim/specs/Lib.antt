@@ -1,3 +1,5 @@
+pub mod Span
+pub mod Step
 pub mod Line
 pub mod Text
 pub mod Stage

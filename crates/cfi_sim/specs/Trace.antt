@@ -13,8 +13,8 @@ use Rattle.cfi_sim.specs.Line.{Says}
 use Rattle.cfi_sim.specs.Schedule.{Makes, PassesNoLimit}
 use Rattle.cfi_sim.specs.Stage.{Stage}
 use Rattle.cfi_sim.specs.Valid.{IsStart}
-use Rattle.cfi_steps.specs.declared.seen.Seen.{Seen}
-use Rattle.cfi_steps.specs.Step.{seen_of, step_text}
+use Rattle.cfi_sim.specs.declared.seen.Seen.{Seen}
+use Rattle.cfi_sim.specs.Step.{seen_of, step_text}
 use Rattle.cfi_text.specs.Decimal.{dec_text}
 use Rattle.cfi_text.specs.Lines.{numbered_lines, statement_of}
 use Rattle.cfi_text.specs.Words.{unblanked, words_in}

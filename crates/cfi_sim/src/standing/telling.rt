@@ -8,12 +8,13 @@ ghost use Rattle.cfi_sim.specs.Trace.{told_of};
 ghost use Rattle.cfi_sim.specs.declared.limits.TheConstants.{MAX_EVENTS};
 ghost use Rattle.cfi_sim.specs.inner.Standing.{IsUnderWay};
 ghost use Rattle.cfi_sim.specs.inner.Tracing.{TellManyBy, TellsBy, TellsLineBy};
-ghost use Rattle.cfi_steps.specs.Step.{seen_of};
+ghost use Rattle.cfi_sim.specs.Step.{seen_of};
 
 use crate::limits::MAX_EVENTS;
 use crate::line::Line;
+use crate::seen::{Seen, see};
 use crate::standing::Standing;
-use cfi_steps::{Seen, put_step, see};
+use crate::step::put_step;
 use cfi_world::World;
 use std::alloc::{AllocError, Global};
 

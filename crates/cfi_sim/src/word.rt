@@ -1,7 +1,7 @@
 //! Table words as text.
 
 ghost use Rattle.std.specs.Prelude.{◌≡◌, ◌++◌, OnOk};
-ghost use Rattle.cfi_steps.specs.Step.{bary_text, epoch_text, quiet_text, target_text, tary_text, word_text};
+ghost use Rattle.cfi_sim.specs.Step.{bary_text, epoch_text, quiet_text, target_text, tary_text, word_text};
 
 use cfi_text::{put_dec, put_hex8};
 use cfi_word::{Word, class_of};

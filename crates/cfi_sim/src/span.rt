@@ -3,7 +3,7 @@
 ghost use Rattle.std.specs.Prelude.{◌≡◌};
 ghost use Rattle.rv_insn.specs.Insn.{InRange};
 ghost use Rattle.std.specs.Prelude.{IfSome};
-ghost use Rattle.cfi_steps.specs.Span.{plain_of, span_of};
+ghost use Rattle.cfi_sim.specs.Span.{plain_of, span_of};
 
 use rv_insn::{ImmOp, Insn};
 

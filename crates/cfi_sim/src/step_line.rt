@@ -1,7 +1,7 @@
 //! The form of a line.
 
 ghost use Rattle.std.specs.Prelude.{◌≡◌, ◌++◌, ◌+◌, [], OnOk, codes};
-ghost use Rattle.cfi_steps.specs.Step.{behind, head_text, left_line, line_of};
+ghost use Rattle.cfi_sim.specs.Step.{behind, head_text, left_line, line_of};
 
 use crate::did::put_stop;
 use crate::seen::Seen;

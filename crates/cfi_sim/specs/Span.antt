@@ -3,7 +3,7 @@ use Rattle.std.specs.Prelude.{ℕ, ℤ, ◌==◌, if◌then◌else◌, Option, S
 use Rattle.rv_insn.specs.declared.insn.Insn.{Insn}
 use Rattle.rv_insn.specs.declared.insn.Insn.TheVariants as insns
 use Rattle.rv_insn.specs.declared.insn.ImmOp.TheVariants.{Addi}
-use Rattle.cfi_steps.specs.declared.span.Span.{Span}
+use Rattle.cfi_sim.specs.declared.span.Span.{Span}
 
 -- so many instructions before, and after
 abbrev pub span : (before after : ℕ) → Span

@@ -1,6 +1,6 @@
 use Rattle.std.proofs.Common.{◌≡◌, ◌++◌}
-use Rattle.cfi_steps.specs.Step.{changes_text}
-use Rattle.cfi_steps.proofs.did.put_changes.Given as goal
+use Rattle.cfi_sim.specs.Step.{changes_text}
+use Rattle.cfi_sim.proofs.did.put_changes.Given as goal
 
 -- the registers so far
 abbrev pub invariant-loop-k : goal.invariant-loop-k

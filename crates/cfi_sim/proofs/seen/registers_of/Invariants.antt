@@ -1,6 +1,6 @@
 use Rattle.std.proofs.Common.{◌≡◌}
-use Rattle.cfi_steps.specs.Step.{first_registers}
-use Rattle.cfi_steps.proofs.seen.registers_of.Given as goal
+use Rattle.cfi_sim.specs.Step.{first_registers}
+use Rattle.cfi_sim.proofs.seen.registers_of.Given as goal
 
 -- the registers so far
 abbrev pub invariant-loop-k : goal.invariant-loop-k

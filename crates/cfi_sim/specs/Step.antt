@@ -11,9 +11,9 @@ use Rattle.cfi_model.specs.Log.{last_of, last_picks}
 use Rattle.cfi_model.specs.Raw.{Raw, reg}
 use Rattle.cfi_model.specs.State.{after}
 use Rattle.cfi_model.specs.Words.{Tables, epoch_in_force, policy_in_force, word_at}
-use Rattle.cfi_steps.specs.declared.seen.Seen.{Seen}
-use Rattle.cfi_steps.specs.declared.span.Span.{Span}
-use Rattle.cfi_steps.specs.Span.{span_of, plain_of}
+use Rattle.cfi_sim.specs.declared.seen.Seen.{Seen}
+use Rattle.cfi_sim.specs.declared.span.Span.{Span}
+use Rattle.cfi_sim.specs.Span.{span_of, plain_of}
 use Rattle.cfi_text.specs.Decimal.{dec_text}
 use Rattle.cfi_text.specs.Hex.{hex8_text}
 use Rattle.cfi_unit.specs.declared.log.Log.{Log}

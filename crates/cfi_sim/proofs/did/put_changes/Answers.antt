@@ -1,9 +1,9 @@
 use Rattle.std.proofs.Common.{◌≡◌, ◌++◌, ℕ, List, slice_index, ap, ◌∙◌, arith}
 use Rattle.cfi_model.specs.Raw.{reg}
-use Rattle.cfi_steps.specs.Step.{change_text, changes_text}
-use Rattle.cfi_steps.proofs.StepLemmas.{no_changes, changes_more}
+use Rattle.cfi_sim.specs.Step.{change_text, changes_text}
+use Rattle.cfi_sim.proofs.StepLemmas.{no_changes, changes_more}
 use Rattle.cfi_unit.specs.declared.unit.TheConstants.{FREE_REGISTERS}
-use Rattle.cfi_steps.proofs.did.put_changes.Goals as goal
+use Rattle.cfi_sim.proofs.did.put_changes.Goals as goal
 
 pub loop-k-init : goal.loop-k-init
 loop-k-init c = no_changes c.args.old.now c.args.new.now c.args.out.now.items

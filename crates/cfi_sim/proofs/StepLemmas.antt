@@ -3,8 +3,8 @@ use Rattle.std.proofs.Common.{◌≡◌, ℕ, ◌+◌, List, [], ◌∷◌, ◌+
 use Rattle.std.proofs.lemmas.List.{append-nil}
 use Rattle.std.proofs.Common.{append_assoc}
 use Rattle.cfi_model.specs.Raw.{Raw, reg}
-use Rattle.cfi_steps.specs.declared.seen.Seen.{Seen}
-use Rattle.cfi_steps.specs.Step.{first_registers, change_text, changes_text}
+use Rattle.cfi_sim.specs.declared.seen.Seen.{Seen}
+use Rattle.cfi_sim.specs.Step.{first_registers, change_text, changes_text}
 
 -- none yet, and one more
 pub no_registers : (r : Raw) → [] ≡ first_registers r 0

@@ -2,7 +2,7 @@
 
 ghost use Rattle.std.specs.Prelude.{◌≡◌, IfOk};
 ghost use Rattle.cfi_model.specs.Log.{last_of, last_picks, picks_in};
-ghost use Rattle.cfi_steps.specs.Step.{first_registers, seen_of};
+ghost use Rattle.cfi_sim.specs.Step.{first_registers, seen_of};
 ghost use Rattle.cfi_unit.specs.declared.unit.TheConstants.{FREE_REGISTERS};
 
 use cfi_model::Point;

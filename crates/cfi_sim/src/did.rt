@@ -1,8 +1,8 @@
 //! What a unit has done, as text.
 
 ghost use Rattle.std.specs.Prelude.{◌≡◌, ◌++◌, OnOk, slice_index};
-ghost use Rattle.cfi_steps.specs.Step.{arrow_text, change_text, changes_text, entry_text, log_text, stop_text};
-ghost use Rattle.cfi_steps.specs.Step.{did_text};
+ghost use Rattle.cfi_sim.specs.Step.{arrow_text, change_text, changes_text, entry_text, log_text, stop_text};
+ghost use Rattle.cfi_sim.specs.Step.{did_text};
 ghost use Rattle.cfi_unit.specs.declared.unit.TheConstants.{FREE_REGISTERS};
 
 use crate::seen::{Seen, last_of, picks_in};

@@ -1,9 +1,9 @@
 use Rattle.std.proofs.Common.{◌≡◌, ◌++◌, ◌∷◌, [], ℕ, List, ap, ◌∙◌, arith}
 use Rattle.cfi_model.specs.Raw.{reg}
-use Rattle.cfi_steps.specs.Step.{first_registers}
-use Rattle.cfi_steps.proofs.StepLemmas.{no_registers, registers_more}
+use Rattle.cfi_sim.specs.Step.{first_registers}
+use Rattle.cfi_sim.proofs.StepLemmas.{no_registers, registers_more}
 use Rattle.cfi_unit.specs.declared.unit.TheConstants.{FREE_REGISTERS}
-use Rattle.cfi_steps.proofs.seen.registers_of.Goals as goal
+use Rattle.cfi_sim.proofs.seen.registers_of.Goals as goal
 
 pub loop-k-init : goal.loop-k-init
 loop-k-init c = c.new-registers.ensures.items ∙ no_registers c.args.guest.now

@@ -2,14 +2,14 @@
 
 ghost use Rattle.std.specs.Prelude.{◌≡◌, ◌++◌, ◌+◌, ◌^◌, ◌<◌, [], IfSome, OnOk, OnErr};
 ghost use Rattle.rv_insn.specs.Insn.{InRange};
-ghost use Rattle.cfi_steps.specs.Step.{ended_text, fetched_text, insn_at, insn_text, inside_text, unit_text};
-ghost use Rattle.cfi_steps.specs.Step.{bary_line, epoch_text, left_line, quiet_text, service_text, step_by, step_text};
-ghost use Rattle.cfi_steps.specs.Step.{tary_line};
+ghost use Rattle.cfi_sim.specs.Step.{ended_text, fetched_text, insn_at, insn_text, inside_text, unit_text};
+ghost use Rattle.cfi_sim.specs.Step.{bary_line, epoch_text, left_line, quiet_text, service_text, step_by, step_text};
+ghost use Rattle.cfi_sim.specs.Step.{tary_line};
 
 use crate::did::put_did;
-use crate::line::{put_left, put_line};
 use crate::seen::Seen;
 use crate::span::{Span, plain_of, span_of};
+use crate::step_line::{put_left, put_line};
 use crate::word::{put_bary, put_epoch, put_quiet, put_tary};
 use cfi_model::Point;
 use cfi_unit::Stop;
