@@ -1,4 +1,4 @@
-"""Causes and cures of faults, read from the tables of docs/GUIDE.md, which is the one place that has them."""
+"""Causes and cures, read from the tables of docs/GUIDE.md and docs/REFUSALS.md, which alone have them."""
 from __future__ import annotations
 
 import re
@@ -71,8 +71,8 @@ def rows_of(text: str) -> list[Row]:
 
 
 def guide_rows() -> list[Row]:
-    """The rows of the guide."""
-    return rows_of(text_of(str(TOP / "docs" / "GUIDE.md")))
+    """The rows of the guide, and of the refusals."""
+    return [row for name in ("GUIDE.md", "REFUSALS.md") for row in rows_of(text_of(str(TOP / "docs" / name)))]
 
 
 def spelled(spelling: str, row: Row) -> tuple[str, list[str]]:
@@ -95,7 +95,7 @@ def fault_row(layer: str, fault: str, bare: bool) -> tuple[Row, list[str]]:
                     found.append((row, words[1:]))
     wanted = [it for it in found if (it[0].section == "Refusals of `run` and `sim`") == bare] or found
     if not wanted:
-        raise Unfit(f"docs/GUIDE.md has no fault {fault} of {layer}: give a line as `cfi` prints it")
+        raise Unfit(f"docs/REFUSALS.md has no fault {fault} of {layer}: give a line as `cfi` prints it")
     return wanted[0]
 
 
@@ -104,7 +104,7 @@ def journal_row(layer: str, number: str) -> Row:
     for row in guide_rows():
         if row.text("in a journal").strip("`").split()[:2] == [layer, number]:
             return row
-    raise Unfit(f"docs/GUIDE.md has no fault {layer} {number}: give a line as `cfi` prints it")
+    raise Unfit(f"docs/REFUSALS.md has no fault {layer} {number}: give a line as `cfi` prints it")
 
 
 def report_row(words: list[str]) -> Row | None:
