@@ -17,7 +17,7 @@ use Rattle.cfi_aux.specs.declared.version.RecordVersion.TheVariants.{One, Two, T
 use Rattle.cfi_aux.specs.Version.{is_type, last_kind}
 use Rattle.cfi_aux.specs.Records.{name_bytes, kind_number, kind_words, body_bytes, word_count, IsNamed, IsBranchWordIn}
 use Rattle.cfi_aux.specs.Reading.{Reader, word_where, and_also, seen_as, each}
-use Rattle.cfi_aux.specs.Faults.{place_at, name_where, import_at, body_at}
+use Rattle.cfi_aux.specs.Fault.{place_at, name_where, import_at, body_at}
 use Rattle.cfi_type_table.proofs.Parts.{Takes}
 use Rattle.cfi_aux.proofs.Formats.{Reads, Reads-also, Agree, Reads-as}
 use Rattle.cfi_values.proofs.ThenLemmas.{ok_is}

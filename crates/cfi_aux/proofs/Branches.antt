@@ -13,7 +13,7 @@ use Rattle.cfi_aux.specs.declared.version.RecordVersion.{RecordVersion}
 use Rattle.cfi_aux.specs.Version.{last_kind}
 use Rattle.cfi_aux.specs.Records.{kind_number, body_bytes, word_count, branch_bytes, IsBranchIn}
 use Rattle.cfi_aux.specs.Reading.{Reader, word_where, and_with}
-use Rattle.cfi_aux.specs.Faults.{body_at, branch_at}
+use Rattle.cfi_aux.specs.Fault.{body_at, branch_at}
 use Rattle.cfi_aux.proofs.Formats.{Reads, Reads-with, Agree, Reads-as}
 use Rattle.cfi_aux.proofs.Words.{Passes, Reads-word}
 use Rattle.cfi_aux.proofs.Bodies.{fits_cell, IsBody, last_at_most, Reads-body}

@@ -12,7 +12,7 @@ use Rattle.cfi_aux.specs.declared.version.RecordVersion.{RecordVersion}
 use Rattle.cfi_aux.specs.Version.{is_type}
 use Rattle.cfi_aux.specs.Records.{padding, name_bytes, flag_of, function_bytes, IsName, IsFunctionIn}
 use Rattle.cfi_aux.specs.Reading.{word_where, and_with, and_also}
-use Rattle.cfi_aux.specs.Faults.{text_at, zeroes_at, padded_at, name_where, name_at, function_of, function_at}
+use Rattle.cfi_aux.specs.Fault.{text_at, zeroes_at, padded_at, name_where, name_at, function_of, function_at}
 use Rattle.cfi_aux.proofs.Formats.{Reads, Reads-with, Reads-also, Agree, Reads-as, Reads-good}
 use Rattle.cfi_aux.proofs.Words.{Passes, Reads-word}
 use Rattle.cfi_aux.proofs.Lists.{IsText, Reads-text, Reads-zeroes}

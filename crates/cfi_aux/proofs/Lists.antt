@@ -9,7 +9,7 @@ use Rattle.cfi_aux.specs.declared.fault.AuxFault.{AuxFault}
 use Rattle.cfi_aux.specs.declared.fault.AuxFault.TheVariants.{Short, BadRecord}
 use Rattle.cfi_aux.specs.Reading.{Reader, each}
 use Rattle.cfi_values.specs.Then.{◌>>=◌, unless_bad}
-use Rattle.cfi_aux.specs.Faults.{text_at, zeroes_at}
+use Rattle.cfi_aux.specs.Fault.{text_at, zeroes_at}
 use Rattle.cfi_type_table.proofs.Parts.{IsBytes, IsBytes-drop, Takes, Takes-then}
 use Rattle.cfi_aux.proofs.Formats.{Reads}
 use Rattle.cfi_values.proofs.ThenLemmas.{then_ok, unless_bad_ok, ok_is}

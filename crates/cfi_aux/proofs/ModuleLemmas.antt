@@ -12,7 +12,7 @@ use Rattle.cfi_aux.specs.declared.records.Records.{Records}
 use Rattle.cfi_aux.specs.Records.{spelling_in}
 use Rattle.cfi_aux.specs.Cells.{have_cells}
 use Rattle.cfi_aux.specs.Reading.{ReadingGives, ReadingFails}
-use Rattle.cfi_aux.specs.Module.{AreSpelled, IsModuleOf, parts_by, parts_in}
+use Rattle.cfi_aux.specs.Modules.{AreSpelled, IsModuleOf, parts_by, parts_in}
 use Rattle.cfi_values.proofs.ThenLemmas.{ok_is}
 use Rattle.cfi_aux.proofs.Whole.{records_again_within}
 

@@ -4,7 +4,7 @@ use Rattle.std.specs.Str.{IsUtf8, is_utf8}
 use Rattle.std.proofs.lemmas.Bool.{le-ltb, false_from_ne_true}
 use Rattle.std.proofs.lemmas.Str.{is_utf8-from_IsUtf8, IsUtf8-from_is_utf8}
 use Rattle.cfi_aux.specs.declared.fault.AuxFault.TheVariants.{BadRecord}
-use Rattle.cfi_aux.specs.Faults.{text_at}
+use Rattle.cfi_aux.specs.Fault.{text_at}
 
 pub text_good : (k n : ℕ) (bytes front rest name : List ℕ) → n ≤ length bytes → front ≡ take n bytes
     → rest ≡ drop n bytes → IsUtf8 front → name ≡ front → text_at k n bytes ≡ Ok (name, rest)

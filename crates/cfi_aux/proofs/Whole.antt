@@ -15,14 +15,14 @@ use Rattle.cfi_aux.specs.declared.records.Function.{Function}
 use Rattle.cfi_aux.specs.declared.records.Records.{Records}
 use Rattle.cfi_aux.specs.declared.records.Kind.{Kind}
 use Rattle.cfi_aux.specs.Cells.{have_cells}
-use Rattle.cfi_aux.specs.Module.{SpellsWithin}
+use Rattle.cfi_aux.specs.Modules.{SpellsWithin}
 use Rattle.cfi_aux.specs.Records.{function_bytes, branch_bytes, records_bytes, spelling_in, IsFunctionIn, AreRecordsIn, Spells}
 use Rattle.cfi_aux.specs.declared.version.RecordVersion.{RecordVersion}
 use Rattle.cfi_aux.specs.declared.version.RecordVersion.TheVariants.{One, Two, Three}
 use Rattle.cfi_aux.specs.Version.{version_word, version_of}
 use Rattle.cfi_aux.specs.Reading.{ReadingGives, next_word, and_with, and_also, each}
 use Rattle.cfi_values.specs.Then.{unless_bad}
-use Rattle.cfi_aux.specs.Faults.{function_at, branch_at, version_or, version_at, count_at, lists_at, records_of, records_at, whole_at, records_within, records_in}
+use Rattle.cfi_aux.specs.Fault.{function_at, branch_at, version_or, version_at, count_at, lists_at, records_of, records_at, whole_at, records_within, records_in}
 use Rattle.cfi_type_table.proofs.Parts.{IsBytes, Takes}
 use Rattle.cfi_aux.proofs.Formats.{Reads, Reads-with, Reads-also, Agree, Reads-as}
 use Rattle.cfi_values.proofs.ThenLemmas.{then_ok, unless_bad_ok, ok_is}

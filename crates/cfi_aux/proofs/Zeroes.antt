@@ -4,7 +4,7 @@ use Rattle.std.proofs.lemmas.Bool.{ne_eqb}
 use Rattle.std.proofs.lemmas.List.{nil_from_length}
 use Rattle.cfi_aux.specs.declared.fault.AuxFault.{AuxFault}
 use Rattle.cfi_aux.specs.declared.fault.AuxFault.TheVariants.{Short, BadRecord}
-use Rattle.cfi_aux.specs.Faults.{zeroes_at}
+use Rattle.cfi_aux.specs.Fault.{zeroes_at}
 
 pub zeroes_go_on : (k count i : ℕ) (bytes : List ℕ) (byte : ℕ) (after : List ℕ)
     (total : Result (Unit {0} × List ℕ) AuxFault) → i < count → bytes ≡ byte ∷ after → byte ≡ 0

@@ -1,5 +1,5 @@
--- Where functions lie: those of a module's records in bytes, from the start of its text, and those of a placed module in
--- words, from its first.
+-- Where functions lie: those of a module's records in bytes, from the start of its text, and those of a placed module
+-- in words, from its first.
 use Rattle.std.specs.Prelude.{ℕ, ◌+◌, ◌<◌, ◌≤◌, List}
 use Rattle.std.specs.List.{Contains, AllPairs}
 use Rattle.cfi_aux.specs.declared.records.Function.{Function}

@@ -3,8 +3,8 @@ pub mod Version
 pub mod Cells
 pub mod Records
 pub mod Reading
-pub mod Faults
-pub mod Module
+pub mod Fault
+pub mod Modules
 pub mod Sound
 pub mod Placed
 pub mod Extent

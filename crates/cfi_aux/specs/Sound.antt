@@ -1,5 +1,5 @@
--- What calls that take a type table or a module may take for granted of it. For a type table it is `AreTypes`: few nodes,
--- each as its kind wants it, and each node that one names is there.
+-- What calls that take a type table or a module may take for granted of it. For a type table it is `AreTypes`: few
+-- nodes, each as its kind wants it, and each node that one names is there.
 use Rattle.elf_read.specs.Sound.{IsSoundObject}
 use Rattle.cfi_type_table.specs.Spelling.{AreTypes}
 use Rattle.cfi_aux.specs.declared.modules.Module.{Module}

@@ -2,7 +2,7 @@
 
 ghost use Rattle.std.specs.Prelude.{◌≤◌};
 ghost use Rattle.cfi_aux.specs.Reading.{ReadingGives, each};
-ghost use Rattle.cfi_aux.specs.Faults.{place_at, import_at, body_at, branch_at};
+ghost use Rattle.cfi_aux.specs.Fault.{place_at, import_at, body_at, branch_at};
 
 use crate::fault::AuxFault;
 use crate::format::{CALL, RETURN, SWITCH, TAIL};

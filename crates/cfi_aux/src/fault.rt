@@ -33,7 +33,7 @@ pub enum AuxFault {
 
 impl From<TypeFault> for AuxFault {
     ghost use Rattle.std.specs.Prelude.{◌≡◌};
-    ghost use Rattle.cfi_aux.specs.Module.{fault_of};
+    ghost use Rattle.cfi_aux.specs.Modules.{fault_of};
 
     ghost from_gives = { λ fault e. e ≡ fault_of fault };
 

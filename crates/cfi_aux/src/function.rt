@@ -1,7 +1,7 @@
 //! Records of functions.
 
 ghost use Rattle.cfi_aux.specs.Reading.{ReadingGives, each};
-ghost use Rattle.cfi_aux.specs.Faults.{function_at};
+ghost use Rattle.cfi_aux.specs.Fault.{function_at};
 
 use crate::fault::AuxFault;
 use crate::name::name_from;

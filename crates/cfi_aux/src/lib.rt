@@ -1,11 +1,11 @@
 //! The records of functions and branches that a module carries, modules, and placed modules.
 //!
 //! Stands on `elf_read`, `cfi_type_table`, `cfi_values` and `thiserror`. Proved: records are read exactly where the
-//! bytes are their spelling in one of three versions, and each other list of bytes has its first fault; what is written,
-//! in each version, is read again, and the third is written exactly where a branch is an import; an object is a module
-//! exactly where its two sections are a type table and records, with cells within its data; what is read of a file is a
-//! sound object; which functions are global, and what a module exports. Only tested, by the cases of `cfi_cases`: the
-//! texts of faults, and that ample memory is enough. Open: nothing.
+//! bytes are their spelling in one of three versions, and each other list of bytes has its first fault; what is
+//! written, in each version, is read again, and the third is written exactly where a branch is an import; an object is
+//! a module exactly where its two sections are a type table and records, with cells within its data; what is read of a
+//! file is a sound object; which functions are global, and what a module exports. Only tested, by the cases of
+//! `cfi_cases`: the texts of faults, and that ample memory is enough. Open: nothing.
 #![tactic(auto)]
 
 mod branch;

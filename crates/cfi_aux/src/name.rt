@@ -4,7 +4,7 @@ ghost use Rattle.std.specs.Prelude.{◌≡◌};
 ghost use Rattle.cfi_aux.specs.Reading.{ReadingGives};
 ghost use Rattle.cfi_aux.specs.Format.{fits_import};
 ghost use Rattle.cfi_aux.specs.Records.{padding};
-ghost use Rattle.cfi_aux.specs.Faults.{text_at, zeroes_at, padded_at, name_where, name_at};
+ghost use Rattle.cfi_aux.specs.Fault.{text_at, zeroes_at, padded_at, name_where, name_at};
 
 use crate::fault::AuxFault;
 use crate::word::{import_length_from, name_length_from};

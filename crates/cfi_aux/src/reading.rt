@@ -3,9 +3,9 @@
 ghost use Rattle.std.specs.Prelude.{IfOk, Ok, Some};
 ghost use Rattle.cfi_aux.specs.declared.records.Records.{Records};
 ghost use Rattle.cfi_aux.specs.Records.{Spells};
-ghost use Rattle.cfi_aux.specs.Module.{SpellsWithin};
+ghost use Rattle.cfi_aux.specs.Modules.{SpellsWithin};
 ghost use Rattle.cfi_aux.specs.Reading.{ReadingGives};
-ghost use Rattle.cfi_aux.specs.Faults.{records_at, records_within, records_in};
+ghost use Rattle.cfi_aux.specs.Fault.{records_at, records_within, records_in};
 
 use crate::branch::branches_from;
 use crate::fault::AuxFault;
@@ -84,8 +84,8 @@ pub fn read_records(alloc: Global, bytes: &[u8], types: &TypeTable) -> Result<Re
     all_of(alloc, bytes, types, None)
 }
 
-/// The records that the bytes spell, as `read_records` reads them, of a module with `size` bytes of data: an import whose
-/// cell does not lie within these is malformed.
+/// The records that the bytes spell, as `read_records` reads them, of a module with `size` bytes of data: an import
+/// whose cell does not lie within these is malformed.
 pub fn records_of_data(
     alloc: Global,
     bytes: &[u8],

@@ -8,7 +8,7 @@ ghost use Rattle.cfi_aux.specs.declared.modules.Module.{Module};
 ghost use Rattle.cfi_aux.specs.Reading.{ReadingGives};
 ghost use Rattle.cfi_aux.specs.Sound.{IsSoundModule};
 ghost use Rattle.elf_read.specs.Sound.{IsSoundObject};
-ghost use Rattle.cfi_aux.specs.Module.{AreSpelled, IsModuleOf, as_types, parts_in};
+ghost use Rattle.cfi_aux.specs.Modules.{AreSpelled, IsModuleOf, as_types, parts_in};
 
 use crate::fault::AuxFault;
 use crate::modules::Module;

@@ -5,7 +5,7 @@ ghost use Rattle.cfi_aux.specs.declared.fault.AuxFault.TheVariants.{BadRecord};
 ghost use Rattle.cfi_aux.specs.Reading.{ReadingGives, word_where};
 ghost use Rattle.cfi_aux.specs.Format.{is_whole, is_length, is_flag, is_name_length, fits_import, is_cell_in, has_count};
 ghost use Rattle.cfi_aux.specs.Version.{is_type, last_kind};
-ghost use Rattle.cfi_aux.specs.Faults.{count_at, version_at};
+ghost use Rattle.cfi_aux.specs.Fault.{count_at, version_at};
 
 use crate::fault::AuxFault;
 use crate::format::{

@@ -10,7 +10,7 @@ ghost use Rattle.cfi_aux.specs.Format.{import_words};
 ghost use Rattle.cfi_aux.specs.Version.{version_for};
 ghost use Rattle.cfi_aux.specs.declared.format.TheConstants.{IMPORT};
 ghost use Rattle.cfi_aux.specs.declared.version.RecordVersion.{RecordVersion};
-ghost use Rattle.cfi_aux.specs.Faults.{records_in};
+ghost use Rattle.cfi_aux.specs.Fault.{records_in};
 
 use crate::format::{CALL, IMPORT, RETURN, SWITCH, TAIL, import_words};
 use crate::name::padding;
@@ -109,8 +109,8 @@ fn put_branches(out: &mut Vec<u8>, branches: &[Kind]) -> Result<(), AllocError>
     Ok(())
 }
 
-/// The bytes that spell the records, in version 3 where a branch is an import and else in version 2. `read_records` reads
-/// them from these where they are records of a type table.
+/// The bytes that spell the records, in version 3 where a branch is an import and else in version 2. `read_records`
+/// reads them from these where they are records of a type table.
 ///
 /// The numbers of functions, of branches, of a name's bytes and of a switch's places are below 2^32.
 pub fn write_records(alloc: Global, records: &Records) -> Result<Vec<u8>, AllocError>

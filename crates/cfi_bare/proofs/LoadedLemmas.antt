@@ -6,14 +6,14 @@ use Rattle.cfi_word.specs.declared.map.TheConstants.{FIRST_BASE, DATA_START}
 use Rattle.cfi_word.specs.declared.limits.TheConstants.{MAX_CODE_WORDS}
 use Rattle.cfi_aux.specs.declared.placed.Placed.{Placed}
 use Rattle.cfi_graph.specs.Shaped.{Follows}
-use Rattle.cfi_verify.specs.Faults.{IsVerified}
-use Rattle.cfi_series.specs.Loaded.{IsVerifiedAmong, AreLoaded}
-use Rattle.cfi_series.proofs.LoadedLemmas.{begins}
+use Rattle.cfi_verify.specs.Fault.{IsVerified}
+use Rattle.cfi_modules.specs.Loaded.{IsVerifiedAmong, AreLoaded}
+use Rattle.cfi_modules.proofs.LoadedLemmas.{begins}
 use Rattle.cfi_aux.specs.declared.placed.PlacedFunction.{PlacedFunction}
 use Rattle.cfi_place.specs.declared.room.Room.{Room}
 use Rattle.cfi_place.specs.Names.{Names}
 use Rattle.cfi_place.specs.Placed.{IsPlaced}
-use Rattle.cfi_bare.specs.Module.{bare_module}
+use Rattle.cfi_bare.specs.Modules.{bare_module}
 
 -- so many copies of a value
 unfoldable pub copies : (count value : ℕ) → List ℕ

@@ -2,9 +2,9 @@
 use Rattle.std.proofs.Common.{◌≡◌, ℕ, ◌%◌, ◌<◌, ◌≤◌, List, [], ◌∷◌, length, arith, rules}
 use Rattle.std.proofs.lemmas.List.Elements.{All-nil, All-cons}
 use Rattle.elf_read.specs.Sound.{IsSoundSymbol, IsSoundReloc}
-use Rattle.cfi_series.specs.Series.{CanBeTaken}
+use Rattle.cfi_modules.specs.Series.{CanBeTaken}
 use Rattle.cfi_word.specs.declared.limits.TheConstants.{MAX_FILE_BYTES}
-use Rattle.cfi_bare.specs.Module.{bare_object, bare_functions, bare_module}
+use Rattle.cfi_bare.specs.Modules.{bare_object, bare_functions, bare_module}
 
 -- it has one function at most
 few : (bytes : List ℕ) → length (bare_functions bytes) ≤ 1

@@ -3,7 +3,7 @@ use Rattle.std.specs.Prelude.{◌≡◌, ◌≢◌, ℕ, ◌%◌, List, length, 
 use Rattle.cfi_aux.specs.declared.modules.Module.{Module}
 use Rattle.cfi_bare.specs.declared.fault.BareFault.{BareFault}
 use Rattle.cfi_bare.specs.declared.fault.BareFault.TheVariants.{Length, Memory}
-use Rattle.cfi_bare.specs.Module.{bare_module}
+use Rattle.cfi_bare.specs.Modules.{bare_module}
 
 -- the bytes are whole words, and this is their module, in which no check has a record
 pub record IsBareFile (bytes : List ℕ) (m : Module) : Type 0 where

@@ -1,2 +1,2 @@
-pub mod Module
+pub mod Modules
 pub mod File

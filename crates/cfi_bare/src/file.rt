@@ -2,7 +2,7 @@
 
 ghost use Rattle.std.specs.Prelude.{◌≤◌, length, IfOk, IfErr};
 ghost use Rattle.cfi_bare.specs.File.{IsBareFile, IsBareFault};
-ghost use Rattle.cfi_series.specs.Series.{CanBeTaken};
+ghost use Rattle.cfi_modules.specs.Series.{CanBeTaken};
 ghost use Rattle.cfi_word.specs.declared.limits.TheConstants.{MAX_FILE_BYTES};
 
 use crate::fault::BareFault;

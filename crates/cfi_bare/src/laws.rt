@@ -2,7 +2,7 @@
 
 ghost use Rattle.std.specs.Prelude.{[], ◌∷◌};
 ghost use Rattle.cfi_bare.specs.File.{IsBareFile};
-ghost use Rattle.cfi_bare.specs.Module.{bare_module};
+ghost use Rattle.cfi_bare.specs.Modules.{bare_module};
 
 /// The bytes of the one word `j .` are a bare file.
 pub fn some_file_is_bare()

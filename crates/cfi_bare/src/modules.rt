@@ -1,7 +1,7 @@
 //! The module that a bare file is.
 
 ghost use Rattle.std.specs.Prelude.{◌≡◌, ◌≤◌, length, IfOk};
-ghost use Rattle.cfi_bare.specs.Module.{bare_types, bare_functions, bare_object, bare_module};
+ghost use Rattle.cfi_bare.specs.Modules.{bare_types, bare_functions, bare_object, bare_module};
 ghost use Rattle.cfi_word.specs.declared.limits.TheConstants.{MAX_FILE_BYTES};
 
 use cfi_aux::{Function, Module, Records};

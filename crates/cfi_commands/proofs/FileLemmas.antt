@@ -15,11 +15,11 @@ use Rattle.cfi_commands.proofs.ModulesLemmas.{at_seam, before_seam, same_count}
 use Rattle.cfi_commands.proofs.ListingLemmas.{short_text}
 use Rattle.cfi_commands.proofs.InstrumentingLemmas.{few_relocs}
 use Rattle.cfi_aux.specs.declared.placed.Placed.{Placed}
-use Rattle.cfi_series.specs.declared.fault.JoinFault.{JoinFault}
-use Rattle.cfi_series.specs.declared.fault.JoinFault.TheVariants as joins
-use Rattle.cfi_series.specs.Order.{Joins, AreInOrder, IsJoinFault, IsFirstRefused}
-use Rattle.cfi_series.specs.Series.{Series, HasJoined, CanBeTaken}
-use Rattle.cfi_series.proofs.OrderLemmas.{order_more as in_order_more}
+use Rattle.cfi_modules.specs.declared.fault.JoinFault.{JoinFault}
+use Rattle.cfi_modules.specs.declared.fault.JoinFault.TheVariants as joins
+use Rattle.cfi_modules.specs.Order.{Joins, AreInOrder, IsJoinFault, IsFirstRefused}
+use Rattle.cfi_modules.specs.Series.{Series, HasJoined, CanBeTaken}
+use Rattle.cfi_modules.proofs.OrderLemmas.{order_more as in_order_more}
 use Rattle.cfi_commands.specs.declared.fault.CommandFault.{CommandFault}
 use Rattle.cfi_commands.specs.declared.fault.CommandFault.TheVariants.{File, Together, Memory}
 use Rattle.cfi_commands.specs.declared.refusal.Refusal.{Refusal}

@@ -9,7 +9,7 @@ use Rattle.cfi_aux.specs.declared.fault.AuxFault.{AuxFault}
 use Rattle.cfi_aux.specs.declared.fault.AuxFault.TheVariants.{NoRecords, Types, Version, Short, BadRecord, Memory}
 use Rattle.cfi_aux.specs.declared.modules.Module.{Module}
 use Rattle.cfi_aux.specs.declared.records.Records.{Records}
-use Rattle.cfi_aux.specs.Module.{IsModuleOf, parts_in}
+use Rattle.cfi_aux.specs.Modules.{IsModuleOf, parts_in}
 use Rattle.cfi_aux.specs.Reading.{ReadingFails}
 use Rattle.cfi_aux.proofs.ModuleLemmas.{module_again, same_module}
 use Rattle.cfi_type_table.specs.Node.{Node}

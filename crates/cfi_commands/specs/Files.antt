@@ -3,9 +3,9 @@
 use Rattle.std.specs.Prelude.{ℕ, List, ⊤}
 use Rattle.cfi_aux.specs.declared.modules.Module.{Module}
 use Rattle.cfi_aux.specs.declared.placed.Placed.{Placed}
-use Rattle.cfi_series.specs.declared.fault.JoinFault.{JoinFault}
-use Rattle.cfi_series.specs.declared.fault.JoinFault.TheVariants as joins
-use Rattle.cfi_series.specs.Order.{AreInOrder, IsFirstRefused}
+use Rattle.cfi_modules.specs.declared.fault.JoinFault.{JoinFault}
+use Rattle.cfi_modules.specs.declared.fault.JoinFault.TheVariants as joins
+use Rattle.cfi_modules.specs.Order.{AreInOrder, IsFirstRefused}
 use Rattle.cfi_commands.specs.declared.fault.CommandFault.{CommandFault}
 use Rattle.cfi_commands.specs.declared.fault.CommandFault.TheVariants.{File, Together, Memory}
 use Rattle.cfi_commands.specs.declared.refusal.Refusal.TheVariants.{Place, Verify}

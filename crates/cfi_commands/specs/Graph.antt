@@ -5,7 +5,7 @@ use Rattle.cfi_text.specs.Decimal.{dec_text}
 use Rattle.cfi_text.specs.Hex.{hex8_text}
 use Rattle.cfi_aux.specs.declared.placed.Placed.{Placed}
 use Rattle.cfi_policy.specs.declared.group.Group.{Group}
-use Rattle.cfi_policy.specs.Groups.{AreGroups}
+use Rattle.cfi_policy.specs.Group.{AreGroups}
 use Rattle.cfi_commands.specs.Files.{ArePlacedFiles}
 
 -- a slot, and an address, after a space

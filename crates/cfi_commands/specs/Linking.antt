@@ -3,7 +3,7 @@ use Rattle.std.specs.Prelude.{◌≡◌, ◌≢◌, ℕ, List, ⊤}
 use Rattle.elf_write.specs.File.{bytes_of}
 use Rattle.cfi_aux.specs.declared.modules.Module.{Module}
 use Rattle.cfi_link.specs.declared.fault.LinkFault.TheVariants as faults
-use Rattle.cfi_link.specs.Faults.{IsFirstLinkFault}
+use Rattle.cfi_link.specs.Fault.{IsFirstLinkFault}
 use Rattle.cfi_link.specs.Linked.{Linked}
 use Rattle.cfi_commands.specs.declared.fault.CommandFault.{CommandFault}
 use Rattle.cfi_commands.specs.declared.fault.CommandFault.TheVariants.{File, Together, Memory}

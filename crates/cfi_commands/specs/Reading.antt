@@ -5,7 +5,7 @@ use Rattle.elf_read.specs.declared.fault.ElfFault.TheVariants as elf_faults
 use Rattle.elf_read.specs.Fault.{IsObject, IsFirstFault}
 use Rattle.cfi_aux.specs.declared.fault.AuxFault.TheVariants as aux_faults
 use Rattle.cfi_aux.specs.declared.modules.Module.{Module}
-use Rattle.cfi_aux.specs.Module.{IsModuleOf, parts_in}
+use Rattle.cfi_aux.specs.Modules.{IsModuleOf, parts_in}
 use Rattle.cfi_commands.specs.declared.refusal.Refusal.{Refusal}
 use Rattle.cfi_commands.specs.declared.refusal.Refusal.TheVariants.{Elf, Aux}
 

@@ -3,8 +3,8 @@
 ghost use Rattle.std.specs.Prelude.{◌≡◌, All, IfOk, IfErr};
 ghost use Rattle.cfi_plan.specs.Plan.{IsPlan};
 ghost use Rattle.cfi_commands.specs.Modules.{IsShortFile};
-ghost use Rattle.cfi_series.specs.Order.{AreInOrder};
-ghost use Rattle.cfi_series.specs.Series.{CanBeTaken};
+ghost use Rattle.cfi_modules.specs.Order.{AreInOrder};
+ghost use Rattle.cfi_modules.specs.Series.{CanBeTaken};
 ghost use Rattle.cfi_commands.specs.Files.{ArePlacedFiles, IsFilesFault};
 ghost use Rattle.cfi_commands.specs.inner.Order.{IsSeriesFault, fault_at};
 
@@ -13,7 +13,7 @@ use crate::modules::read_modules;
 use crate::refusal::Refusal;
 use cfi_aux::Module;
 use cfi_plan::Plan;
-use cfi_series::{JoinFault, Series};
+use cfi_modules::{JoinFault, Series};
 use cfi_values::{Bytes, Items};
 use cfi_word::Layout;
 use std::alloc::Global;

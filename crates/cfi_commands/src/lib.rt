@@ -1,16 +1,16 @@
 //! What the commands on files make of the bytes that they read, and why they refuse them.
 //!
-//! Stands on the formats, `rv_text`, `rv_asm`, `cfi_instr`, `cfi_link`, `cfi_plan`, `cfi_series`, `cfi_policy`, `cfi_bare`
-//! and what these stand on; `cfi_top` calls it. Proved: `listing_of` gives the listing of an object's text, or the
-//! object's first fault, by `specs/Listing.antt`; `assembled` the file of the object that a source makes, or its first
-//! faulty line, by `specs/Assembling.antt`; `read_module` the module that a file is, or its first fault, by
-//! `specs/Reading.antt`, and `read_modules` those that several are, by `specs/Modules.antt`; `instrumented` the file of a
-//! file's instrumented module, by `specs/Instrumenting.antt`, and `linked` the file of the module that several files'
+//! Stands on the formats, `rv_text`, `rv_asm`, `cfi_instr`, `cfi_link`, `cfi_plan`, `cfi_modules`, `cfi_policy`,
+//! `cfi_bare` and what these stand on; `cfi_top` calls it. Proved: `listing_of` gives the listing of an object's text,
+//! or the object's first fault, by `specs/Listing.antt`; `assembled` the file of the object that a source makes, or its
+//! first faulty line, by `specs/Assembling.antt`; `read_module` the module that a file is, or its first fault, by
+//! `specs/Reading.antt`, and `read_modules` those that several are, by `specs/Modules.antt`; `instrumented` the file of
+//! a file's instrumented module, by `specs/Instrumenting.antt`, and `linked` the file of the module that several files'
 //! modules are linked into, by `specs/Linking.antt`, or the first fault; the files of a plan are taken as modules, all
 //! before the first is placed, and are placed in order, or the first fault of this order is told with its number, by
 //! `specs/Files.antt`; the texts of `verify` and `graph` are exactly those of `specs/Verified.antt` and
-//! `specs/Graph.antt`, and the words of a refusal those of `specs/Refusal.antt`. Only tested: that ample memory is enough,
-//! by the program of cases. Open: when memory runs out.
+//! `specs/Graph.antt`, and the words of a refusal those of `specs/Refusal.antt`. Only tested: that ample memory is
+//! enough, by the program of cases. Open: when memory runs out.
 #![tactic(auto)]
 
 mod asm;

@@ -1,6 +1,6 @@
 ghost use Rattle.std.specs.Prelude.{◌≡◌, All, IfOk, IfErr};
 ghost use Rattle.cfi_aux.specs.Sound.{IsSoundModule};
-ghost use Rattle.cfi_series.specs.Series.{CanBeTaken};
+ghost use Rattle.cfi_modules.specs.Series.{CanBeTaken};
 ghost use Rattle.cfi_commands.specs.Modules.{AreModuleFiles, IsModulesFault, IsShortFile};
 
 use crate::fault::CommandFault;

@@ -14,8 +14,8 @@ use std::alloc::Global;
 
 /// The module that a file is: an object, with the types and records that its two sections have.
 ///
-/// `bytes` are the whole file, and `number` is its number among the command's files, from 0. A fault of the object comes
-/// before one of its sections.
+/// `bytes` are the whole file, and `number` is its number among the command's files, from 0. A fault of the object
+/// comes before one of its sections.
 pub fn read_module(alloc: Global, number: usize, bytes: &[u8]) -> Result<Module, CommandFault>
     requires small { length bytes.now ≤ MAX_FILE }
     ensures ok { IfOk result (IsModuleFile bytes.now) }

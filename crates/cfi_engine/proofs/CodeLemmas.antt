@@ -1,7 +1,7 @@
 -- There is code for the guests to begin in.
 use Rattle.std.proofs.Common.{◌≡◌, ℕ, ◌<◌, List, [], ◌∷◌, length, refl, sym, subst, arith}
 use Rattle.cfi_aux.specs.declared.modules.Module.{Module}
-use Rattle.cfi_bare.specs.Module.{bare_functions, bare_module}
+use Rattle.cfi_bare.specs.Modules.{bare_functions, bare_module}
 use Rattle.cfi_plan.specs.Bare.{bare_one, bare_plan}
 use Rattle.cfi_plan.specs.Plan.{IsPlan}
 use Rattle.cfi_plan.specs.declared.plan.Plan.{Plan}

@@ -26,9 +26,9 @@ use Rattle.cfi_loader.specs.Told.{HasTold}
 use Rattle.cfi_loader.specs.declared.fault.LoadFault.{LoadFault}
 use Rattle.cfi_loader.specs.declared.fault.LoadFault.TheVariants.{ModulesFull, Place, Verify, EpochsSpent, VersionsSpent, Memory}
 use Rattle.cfi_loader.specs.declared.loaded.Loaded.{Loaded}
-use Rattle.cfi_series.specs.Numbers.{place_numbers, verify_numbers}
-use Rattle.cfi_series.specs.declared.numbers.FaultNumbers.{FaultNumbers}
-use Rattle.cfi_series.specs.declared.numbers.FaultNumbers.TheVariants as numbers
+use Rattle.cfi_modules.specs.Numbers.{place_numbers, verify_numbers}
+use Rattle.cfi_modules.specs.declared.numbers.FaultNumbers.{FaultNumbers}
+use Rattle.cfi_modules.specs.declared.numbers.FaultNumbers.TheVariants as numbers
 use Rattle.cfi_tables.specs.Key.{Key}
 use Rattle.cfi_tables.specs.declared.fault.UpdateFault.{UpdateFault}
 use Rattle.cfi_tables.specs.declared.fault.UpdateFault.TheVariants as updates

@@ -7,7 +7,7 @@ use Rattle.std.proofs.lemmas.List.Sums.{sum_by-cons}
 use Rattle.cfi_aux.specs.declared.modules.Module.{Module}
 use Rattle.cfi_loader.specs.Ledger.{Ledger, IsLedger}
 use Rattle.cfi_loader.specs.Passes.{with_keeping}
-use Rattle.cfi_loader.specs.Starting.{Started, IsStarted}
+use Rattle.cfi_loader.specs.Start.{Started, IsStarted}
 use Rattle.cfi_plan.specs.declared.plan.Plan.{Plan}
 use Rattle.cfi_tables.specs.Keeping.{Keeping, IsFree, is_out, let_out}
 use Rattle.cfi_tables.specs.Key.{Key}

@@ -7,7 +7,7 @@ use Rattle.std.proofs.lemmas.Option.{get_or_from_slice_get, none-some, same_Some
 use Rattle.cfi_aux.specs.Sound.{IsSoundModule}
 use Rattle.cfi_aux.specs.declared.modules.Module.{Module}
 use Rattle.cfi_aux.specs.declared.placed.Placed.{Placed}
-use Rattle.cfi_drive.specs.Runner.{IsOpening}
+use Rattle.cfi_guest_run.specs.Runner.{IsOpening}
 use Rattle.cfi_graph.proofs.BoundLemmas.{contains_at}
 use Rattle.cfi_loader.specs.Ledger.{Ledger, IsLedger}
 use Rattle.cfi_ledger.specs.Policies.{IsEntryOf}
@@ -20,14 +20,14 @@ use Rattle.cfi_model.specs.declared.history.Entry.{Entry as TableEntry}
 use Rattle.cfi_plan.specs.Draft.{starts}
 use Rattle.cfi_plan.specs.declared.plan.Plan.{Plan}
 use Rattle.cfi_plan.specs.declared.plan.PlanModule.{PlanModule}
-use Rattle.cfi_series.specs.Entry.{IsEntryIn}
-use Rattle.cfi_series.specs.Fills.{fills_of}
-use Rattle.cfi_series.specs.Loaded.{AreLoaded, IsLoadedImage}
-use Rattle.cfi_series.specs.Order.{Joins, names_of}
-use Rattle.cfi_series.specs.Room.{room_after}
-use Rattle.cfi_series.proofs.ImageLemmas.{entry_start, function_start}
-use Rattle.cfi_series.proofs.PlacedLemmas.{fits}
-use Rattle.cfi_series.proofs.PrefixLemmas.{data_lies}
+use Rattle.cfi_modules.specs.Entry.{IsEntryIn}
+use Rattle.cfi_modules.specs.Fills.{fills_of}
+use Rattle.cfi_modules.specs.Loaded.{AreLoaded, IsLoadedImage}
+use Rattle.cfi_modules.specs.Order.{Joins, names_of}
+use Rattle.cfi_modules.specs.Room.{room_after}
+use Rattle.cfi_modules.proofs.ImageLemmas.{entry_start, function_start}
+use Rattle.cfi_modules.proofs.PlacedLemmas.{fits}
+use Rattle.cfi_modules.proofs.PrefixLemmas.{data_lies}
 use Rattle.cfi_tables.specs.Keeping.{last_of}
 use Rattle.cfi_tables.specs.Key.{Key}
 use Rattle.cfi_tables.specs.Views.{admitted}

@@ -3,7 +3,7 @@ use Rattle.std.proofs.Common.{◌≡◌, ℕ, ◌+◌, ◌<◌, List, [], ◌∷
 use Rattle.std.proofs.lemmas.Grind.{common_steps}
 use Rattle.std.proofs.lemmas.Bool.{cases_lt}
 use Rattle.std.proofs.lemmas.List.{get_or_append_left, get_or_push, length-append}
-use Rattle.cfi_drive.specs.Runner.{Ran}
+use Rattle.cfi_guest_run.specs.Runner.{Ran}
 use Rattle.cfi_engine.specs.Guests.{AreWaiting, IsWaiting}
 
 pub waiting_push : (rans : List Ran) (ran : Ran) → AreWaiting rans → IsWaiting (length rans) ran

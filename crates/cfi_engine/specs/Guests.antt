@@ -1,7 +1,7 @@
 -- The guests of a plan, as far as they are opened.
 use Rattle.std.specs.Prelude.{◌≡◌, ℕ, ◌<◌, ◌≤◌, true, false, List, [], length, slice_get, slice_index_or, None, Some}
 use Rattle.cfi_aux.specs.declared.modules.Module.{Module}
-use Rattle.cfi_drive.specs.Runner.{Ran}
+use Rattle.cfi_guest_run.specs.Runner.{Ran}
 use Rattle.cfi_loader.specs.Ledger.{Ledger}
 use Rattle.cfi_plan.specs.declared.plan.Plan.{Plan}
 use Rattle.cfi_plan.specs.declared.plan.PlanModule.{PlanModule}

@@ -1,13 +1,13 @@
 //! The guests of a plan, from their opening to their end.
 
 ghost use Rattle.std.specs.Prelude.{◌≡◌, ◌≢◌, ◌+◌, ◌<◌, ℕ, true, None, Some, All, IfOk, OnOk, OnErr, length, slice_get};
-ghost use Rattle.cfi_drive.specs.Concluded.{IsEndedRun};
-ghost use Rattle.cfi_drive.specs.Runner.{Ran};
+ghost use Rattle.cfi_guest_run.specs.Concluded.{IsEndedRun};
+ghost use Rattle.cfi_guest_run.specs.Runner.{Ran};
 ghost use Rattle.cfi_engine.specs.Guests.{AreFirstOpened, HasAdmitted, HasCode, IsOpenedTo};
 ghost use Rattle.cfi_engine.specs.Guests.{AreWaiting, IsWaiting};
 ghost use Rattle.cfi_engine.specs.inner.Guests.{AreOver, IsOver};
 
-use cfi_drive::{Runner, drive};
+use cfi_guest_run::{Runner, drive};
 use cfi_io::Gate;
 use cfi_loader::{Loader, LoaderName};
 use cfi_plan::Plan;
@@ -50,8 +50,8 @@ fn open_guest<N: LoaderName>(
 
 /// Opens all guests of the plan, in order: each at its entry, with the data of the start modules, a pass and a slip.
 ///
-/// Nothing was loaded since the start, and no pass is out. Where no memory is left, some passes may have gone out; of what
-/// the loader keeps nothing else is changed, either way.
+/// Nothing was loaded since the start, and no pass is out. Where no memory is left, some passes may have gone out; of
+/// what the loader keeps nothing else is changed, either way.
 pub fn open_guests<N: LoaderName>(
     alloc: Global,
     loader: &mut Loader<N>,

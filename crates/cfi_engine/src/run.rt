@@ -2,7 +2,7 @@
 
 ghost use Rattle.std.specs.Prelude.{◌≡◌, IfOk, IfErr, length};
 ghost use Rattle.cfi_ledger.specs.Plans.{CanStart};
-ghost use Rattle.cfi_loader.specs.Starting.{IsStarted};
+ghost use Rattle.cfi_loader.specs.Start.{IsStarted};
 ghost use Rattle.cfi_engine.specs.Fault.{IsRunFault};
 ghost use Rattle.cfi_engine.specs.Guests.{AreWaiting, HasCode};
 ghost use Rattle.cfi_engine.specs.inner.Guests.{AreOver};
@@ -11,7 +11,7 @@ use crate::fault::RunFault;
 use crate::guests::{have_stopped, open_guests, run_guests};
 use crate::script::{count_calls, make_calls, make_rest};
 use cfi_aux::Module;
-use cfi_drive::{Concluded, Runner, conclude};
+use cfi_guest_run::{Concluded, Runner, conclude};
 use cfi_io::Gate;
 use cfi_loader::{Loader, LoaderName, Start, StartFault};
 use cfi_plan::Plan;
@@ -102,8 +102,9 @@ fn run_named<N: LoaderName + Send + Sync, G: Gate, R: Threads + Wait + Sync>(
 /// Runs a plan: places and verifies its start modules, runs each guest on a thread of its own beside the script, and
 /// makes the report.
 ///
-/// `modules` are those of the plan, one a line; of a plan that stands for a bare file the first is that file's. `Open` is
-/// the first fault of opening it; `Memory` comes also where a load that a guest or the script asked for found no memory.
+/// `modules` are those of the plan, one a line; of a plan that stands for a bare file the first is that file's. `Open`
+/// is the first fault of opening it; `Memory` comes also where a load that a guest or the script asked for found no
+/// memory.
 pub fn run_plan<G: Gate, R: Threads + Wait + Sync>(
     rt: &R,
     alloc: Global,

@@ -14,7 +14,7 @@ use Rattle.cfi_type_table.proofs.Tables.{types_again}
 use Rattle.cfi_aux.specs.declared.fault.AuxFault.TheVariants.{NoRecords, BadRecord}
 use Rattle.cfi_aux.specs.declared.records.Kind.{Kind}
 use Rattle.cfi_aux.specs.declared.records.Kind.TheVariants as branches
-use Rattle.cfi_aux.specs.Module.{AreSpelled, parts_in}
+use Rattle.cfi_aux.specs.Modules.{AreSpelled, parts_in}
 use Rattle.cfi_aux.specs.declared.modules.Module.{Module}
 use Rattle.cfi_aux.specs.Version.{version_for}
 use Rattle.cfi_aux.proofs.VersionLemmas.{records-written}

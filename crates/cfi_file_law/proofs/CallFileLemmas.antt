@@ -15,7 +15,7 @@ use Rattle.elf_write.specs.Contents.{name_table, symbol_entry, symbol_name_place
 use Rattle.elf_write.specs.File.{padding, padded, section_place, part_header, file_header, bytes_of}
 use Rattle.cfi_type_table.specs.Spelling.{AreTypes}
 use Rattle.cfi_aux.specs.Format.{is_length}
-use Rattle.cfi_aux.specs.Module.{AreSpelled}
+use Rattle.cfi_aux.specs.Modules.{AreSpelled}
 use Rattle.cfi_aux.specs.Sound.{IsSoundModule}
 use Rattle.cfi_aux.specs.Records.{AreRecordsIn}
 use Rattle.cfi_aux.specs.declared.version.RecordVersion.TheVariants.{Two}

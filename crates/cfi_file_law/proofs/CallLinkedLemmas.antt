@@ -18,7 +18,7 @@ use Rattle.cfi_place.specs.Placed.{bytes_as_words}
 use Rattle.cfi_place.specs.Slots.{ReadFrom, HasSlots}
 use Rattle.cfi_link.specs.Applied.{applied_from}
 use Rattle.cfi_link.specs.Chosen.{twice_from}
-use Rattle.cfi_link.specs.Faults.{HasUnits, CanBeLinked, relocated_by}
+use Rattle.cfi_link.specs.Fault.{HasUnits, CanBeLinked, relocated_by}
 use Rattle.cfi_link.specs.Joined.{Joined, with_module, joined_of}
 use Rattle.cfi_link.specs.Linked.{AreModules, IsTextOf, Linked}
 use Rattle.cfi_commands.specs.Linking.{IsLinkedFile}

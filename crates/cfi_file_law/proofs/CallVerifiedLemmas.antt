@@ -10,7 +10,7 @@ use Rattle.cfi_unit.specs.Spots.{spots_of, AreSpots}
 use Rattle.cfi_unit.specs.declared.spot.Spot.{Spot}
 use Rattle.cfi_unit.proofs.SpotLemmas.{AreSpots-one}
 use Rattle.cfi_verify.specs.declared.fault.VerifyFault.TheVariants.{Target}
-use Rattle.cfi_verify.specs.Faults.{FaultStandsIn, FaultStands, Verifies}
+use Rattle.cfi_verify.specs.Fault.{FaultStandsIn, FaultStands, Verifies}
 use Rattle.cfi_verify.specs.Target.{LeadsToEntry, LeadsWell}
 use Rattle.cfi_word.specs.declared.map.TheConstants.{FIRST_BASE}
 use Rattle.cfi_instr_law.specs.Proper.{IsProper}

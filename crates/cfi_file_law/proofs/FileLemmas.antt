@@ -4,7 +4,7 @@ use Rattle.elf_read.specs.Fault.{IsObject}
 use Rattle.elf_read.specs.declared.object.Object.{Object}
 use Rattle.elf_write.specs.File.{bytes_of}
 use Rattle.elf_write.specs.Whole.{IsWhole}
-use Rattle.cfi_aux.specs.Module.{AreSpelled, IsModuleOf}
+use Rattle.cfi_aux.specs.Modules.{AreSpelled, IsModuleOf}
 use Rattle.cfi_aux.specs.declared.modules.Module.{Module}
 use Rattle.cfi_commands.specs.Reading.{IsModuleFile}
 use Rattle.cfi_made_law.specs.Order.{object_of_file, module_of_file}

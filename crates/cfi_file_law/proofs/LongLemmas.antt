@@ -22,7 +22,7 @@ use Rattle.cfi_aux.specs.Version.{is_import, version_for}
 use Rattle.cfi_aux.specs.Format.{has_count}
 use Rattle.cfi_aux.specs.Records.{function_bytes, branch_bytes, spelling_in, spelling, IsFunctionIn, IsFunction, IsWordSized}
 use Rattle.cfi_aux.specs.Reading.{Reader, word_where, and_with, and_also, seen_as, each}
-use Rattle.cfi_aux.specs.Faults.{function_at, branch_at, version_at, count_at, lists_at, body_at, records_of, records_at, whole_at, records_within}
+use Rattle.cfi_aux.specs.Fault.{function_at, branch_at, version_at, count_at, lists_at, body_at, records_of, records_at, whole_at, records_within}
 use Rattle.cfi_aux.proofs.Formats.{Reads, Reads-also}
 use Rattle.cfi_aux.proofs.Words.{Passes, word_again, Reads-word}
 use Rattle.cfi_aux.proofs.Lists.{Reads-each}

@@ -4,7 +4,7 @@ use Rattle.std.proofs.lemmas.Bool.{cases_lt}
 use Rattle.std.proofs.lemmas.List.{nil_from_length}
 use Rattle.elf_read.specs.declared.object.Object.{Object}
 use Rattle.elf_read.proofs.FaultLemmas.{one_object}
-use Rattle.cfi_aux.specs.Module.{IsModuleOf}
+use Rattle.cfi_aux.specs.Modules.{IsModuleOf}
 use Rattle.cfi_aux.specs.declared.modules.Module.{Module}
 use Rattle.cfi_aux.specs.declared.placed.Placed.{Placed}
 use Rattle.cfi_commands.proofs.ReadingLemmas.{one_module}

@@ -2,7 +2,7 @@
 use Rattle.std.proofs.Common.{◌≢◌, ℕ, ◌≤◌, List, [], length, refl, sym, subst, inl, inr, arith}
 use Rattle.std.proofs.lemmas.Bool.{cases_lt}
 use Rattle.std.proofs.lemmas.List.{nil_from_length}
-use Rattle.cfi_aux.specs.Module.{AreSpelled, IsModuleOf}
+use Rattle.cfi_aux.specs.Modules.{AreSpelled, IsModuleOf}
 use Rattle.cfi_commands.specs.Stubbing.{IsStubbedFile}
 use Rattle.cfi_made_law.specs.Read.{IsReadOf}
 use Rattle.cfi_made_law.proofs.ReadLemmas.{IsFit, read-fit}

@@ -17,7 +17,7 @@ ghost use Rattle.cfi_place.specs.Names.{Names};
 ghost use Rattle.cfi_place.specs.Placed.{IsRoom, IsPlaced};
 ghost use Rattle.cfi_instr.specs.Output.{IsInstrumented};
 ghost use Rattle.cfi_commands.specs.Assembling.{IsAssembled};
-ghost use Rattle.cfi_verify.specs.Faults.{Verifies};
+ghost use Rattle.cfi_verify.specs.Fault.{Verifies};
 ghost use Rattle.cfi_commands.specs.Reading.{IsModuleFile, IsFileFault};
 ghost use Rattle.cfi_commands.specs.declared.refusal.Refusal.TheVariants.{Aux};
 ghost use Rattle.cfi_aux.specs.declared.fault.AuxFault.TheVariants.{NoRecords, BadRecord};
@@ -92,8 +92,8 @@ pub fn stubbed_are_read()
     written_is_read();
 }
 
-/// What `stub` makes of a file has, once it is instrumented and placed, no fault but jumps that lead elsewhere, whatever
-/// modules are loaded.
+/// What `stub` makes of a file has, once it is instrumented and placed, no fault but jumps that lead elsewhere,
+/// whatever modules are loaded.
 pub fn stubbed_are_proper()
     ensures { (bytes file : List ℕ) (is : IsStubbedFile bytes file) (made : Module) (room : Room)
         (names : Names) (placed : Placed) → is.out.object.text ≢ [] →

@@ -6,7 +6,7 @@ use Rattle.cfi_types.specs.Classes.{table_of, class_of, IsNodePlace, AreClasses}
 use Rattle.cfi_flow.specs.declared.links.Link.{Link}
 use Rattle.cfi_flow.specs.Flow.{Links, IsPath, Reaches}
 use Rattle.cfi_fits.specs.Fits.{IsCallable, VariadicFits, Fits}
-use Rattle.cfi_fits.specs.Widenings.{IsWider}
+use Rattle.cfi_fits.specs.Widening.{IsWider}
 use Rattle.cfi_fits.specs.inner.Prefix.{IsPrefix}
 use Rattle.cfi_fits.proofs.PrefixLemmas.{prefix_itself, prefix_trans}
 use Rattle.cfi_fits.proofs.TypeLemmas.{node_at, key_at, IsWholePlace, FitsByKeys, keys_from_fits, fits_from_keys, same_kind, same_key}

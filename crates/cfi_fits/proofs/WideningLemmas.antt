@@ -13,7 +13,7 @@ use Rattle.cfi_flow.specs.declared.links.Link.{Link}
 use Rattle.cfi_flow.specs.Flow.{Reaches}
 use Rattle.cfi_fits.specs.declared.signature.Signature.{Signature}
 use Rattle.cfi_fits.specs.Fits.{IsCallable, VariadicFits}
-use Rattle.cfi_fits.specs.Widenings.{IsWider, AreWidenings}
+use Rattle.cfi_fits.specs.Widening.{IsWider, AreWidenings}
 use Rattle.cfi_fits.specs.inner.Prefix.{IsPrefix}
 use Rattle.cfi_fits.specs.inner.Signatures.{kind_of, IsSignature, IsSomeones, AreGathered, Precedes, AreInOrder, Widens}
 use Rattle.cfi_fits.specs.inner.Nearest.{IsNearest, AreNearest, IsLinked, AreLinksOf}

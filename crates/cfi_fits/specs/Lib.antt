@@ -1,3 +1,3 @@
 pub mod Fits
-pub mod Widenings
+pub mod Widening
 pub mod inner

@@ -4,7 +4,7 @@ ghost use Rattle.std.specs.Prelude.{◌≡◌, ℕ, false, All, length, IfOk};
 ghost use Rattle.cfi_type_table.specs.declared.kind.TheConstants.{VARFUNC};
 ghost use Rattle.cfi_type_table.specs.Node.{node_of};
 ghost use Rattle.cfi_types.specs.Classes.{AreClasses, IsNodePlace, table_of};
-ghost use Rattle.cfi_fits.specs.Widenings.{AreWidenings};
+ghost use Rattle.cfi_fits.specs.Widening.{AreWidenings};
 ghost use Rattle.cfi_fits.specs.inner.Nearest.{AreNearest, AreLinksOf};
 
 use crate::gathering::in_order;

@@ -4,8 +4,8 @@
 //! `cfi_word`. Proved: the edges of a flow are exactly those that it states, in order, each once; some of them have
 //! chains that join what any edge joins, and are at most two for each link; where links are added to a kept flow, so
 //! are edges, which do the same with those before; those that are no edges of a part of the flow are told without the
-//! others; the rows of links are where the links from each number lead. Only tested, by `cfi_calls`: that ample memory is
-//! enough, but for the kept flow and the edges that are none of a part. Open: nothing.
+//! others; the rows of links are where the links from each number lead. Only tested, by `cfi_calls`: that ample memory
+//! is enough, but for the kept flow and the edges that are none of a part. Open: nothing.
 #![tactic(auto)]
 
 mod edges;

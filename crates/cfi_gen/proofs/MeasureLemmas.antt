@@ -5,14 +5,14 @@ use Rattle.std.proofs.Math.Seq.{take-length}
 use Rattle.std.proofs.lemmas.List.Sums.{sum_by_push}
 use Rattle.std.proofs.lemmas.Option.{slice_get_read, slice_get_within}
 use Rattle.cfi_aux.specs.declared.placed.Placed.{Placed}
-use Rattle.cfi_series.specs.Loaded.{AreLoaded}
-use Rattle.cfi_series.proofs.SeriesLemmas.{item_at, room_is, take_one_more}
+use Rattle.cfi_modules.specs.Loaded.{AreLoaded}
+use Rattle.cfi_modules.proofs.SeriesLemmas.{item_at, room_is, take_one_more}
 use Rattle.cfi_word.specs.declared.map.TheConstants.{FIRST_BASE}
 use Rattle.cfi_place.specs.Placed.{IsRoom}
-use Rattle.cfi_series.proofs.RoomLemmas.{after_last}
-use Rattle.cfi_series.specs.Room.{first_room, room_behind}
+use Rattle.cfi_modules.proofs.RoomLemmas.{after_last}
+use Rattle.cfi_modules.specs.Room.{first_room, room_behind}
 use Rattle.cfi_gen.specs.inner.Series.{IsOfSeries}
-use Rattle.cfi_gen.specs.Measured.{words_in, branches_in}
+use Rattle.cfi_gen.specs.Measure.{words_in, branches_in}
 
 -- a module begins where those before it end
 record BeginsBehind (ms : List Placed) (k : ℕ) (m : Placed) : Type 0 where

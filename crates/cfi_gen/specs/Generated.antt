@@ -1,5 +1,5 @@
--- The files of the modules that are drawn of a seed: each source is assembled, and the module that its object is, as it is
--- read of the object's file, is instrumented. Sources and files are numbered from 0.
+-- The files of the modules that are drawn of a seed: each source is assembled, and the module that its object is, as it
+-- is read of the object's file, is instrumented. Sources and files are numbered from 0.
 use Rattle.std.specs.Prelude.{◌⊎◌, ℕ, List, take, slice_get, IsSomeAnd, ⊤}
 use Rattle.std.specs.List.{AllZip}
 use Rattle.cfi_commands.specs.Assembling.{IsAssembled, IsSourceFault}

@@ -5,5 +5,5 @@ pub mod Source
 pub mod Plan
 pub mod Generated
 pub mod PlanRead
-pub mod Measured
+pub mod Measure
 pub mod inner

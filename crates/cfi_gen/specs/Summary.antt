@@ -1,5 +1,5 @@
--- The summary of a generated run: what was asked for, how much it is, what each guest has come to, and the end. The lines
--- of what a guest put and why it stopped are those of a report.
+-- The summary of a generated run: what was asked for, how much it is, what each guest has come to, and the end. The
+-- lines of what a guest put and why it stopped are those of a report.
 use Rattle.std.specs.Prelude.{ℕ, List, [], ◌++◌, codes}
 use Rattle.std.specs.List.{flat_map}
 use Rattle.cfi_text.specs.Decimal.{dec_text}

@@ -3,7 +3,7 @@
 ghost use Rattle.std.specs.Prelude.{◌≡◌, All, IfOk, IfErr, count_by};
 ghost use Rattle.cfi_commands.specs.Files.{IsFilesFault};
 ghost use Rattle.cfi_commands.specs.Modules.{IsShortFile};
-ghost use Rattle.cfi_gen.specs.Measured.{IsMeasure, branches_in, has_targets, words_in};
+ghost use Rattle.cfi_gen.specs.Measure.{IsMeasure, branches_in, has_targets, words_in};
 ghost use Rattle.cfi_gen.specs.inner.Series.{IsOfSeries};
 ghost use Rattle.cfi_plan.specs.Plan.{IsPlan};
 

@@ -6,7 +6,7 @@ use Rattle.cfi_flow.specs.declared.links.Link.{Link}
 use Rattle.cfi_flow.specs.declared.links.Flow.{Flow}
 use Rattle.cfi_flow.specs.Flow.{AreBelow, IsSound, link_count}
 use Rattle.cfi_types.specs.Classes.{AreClasses}
-use Rattle.cfi_fits.specs.Widenings.{AreWidenings}
+use Rattle.cfi_fits.specs.Widening.{AreWidenings}
 use Rattle.cfi_aux.specs.declared.placed.Placed.{Placed}
 use Rattle.cfi_graph.specs.declared.fact.Fact.{Fact}
 use Rattle.cfi_graph.specs.Facts.{ByName, AreImports, AreFacts}

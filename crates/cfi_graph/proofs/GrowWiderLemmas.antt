@@ -13,7 +13,7 @@ use Rattle.cfi_type_table.specs.Node.{Node, node_of}
 use Rattle.cfi_type_table.specs.Spelling.{AreTypes}
 use Rattle.cfi_types.specs.Classes.{table_of, class_of, IsNodePlace, AreClasses}
 use Rattle.cfi_fits.specs.Fits.{VariadicFits}
-use Rattle.cfi_fits.specs.Widenings.{IsWider}
+use Rattle.cfi_fits.specs.Widening.{IsWider}
 use Rattle.cfi_fits.proofs.FitsLemmas.{exactly}
 use Rattle.cfi_fits.proofs.TypeLemmas.{IsWholePlace}
 use Rattle.cfi_aux.specs.declared.placed.Placed.{Placed}

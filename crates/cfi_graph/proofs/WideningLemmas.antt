@@ -10,7 +10,7 @@ use Rattle.cfi_flow.proofs.RowLemmas.{make_link}
 use Rattle.cfi_type_table.specs.Node.{Node, node_of}
 use Rattle.cfi_types.specs.Classes.{table_of, class_of, IsNodePlace, AreClasses}
 use Rattle.cfi_fits.specs.Fits.{IsCallable, Fits}
-use Rattle.cfi_fits.specs.Widenings.{AreWidenings}
+use Rattle.cfi_fits.specs.Widening.{AreWidenings}
 use Rattle.cfi_aux.specs.declared.placed.Placed.{Placed}
 use Rattle.cfi_graph.specs.Facts.{type_node}
 use Rattle.cfi_graph.specs.Reading.{tables_of, type_count, node_count}

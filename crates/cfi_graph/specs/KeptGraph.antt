@@ -9,7 +9,7 @@ use Rattle.cfi_flow.specs.Kept.{Kept}
 use Rattle.cfi_type_table.specs.Node.{Node}
 use Rattle.cfi_types.specs.Classes.{table_of, class_of, IsNodePlace, AreClasses}
 use Rattle.cfi_fits.specs.Fits.{VariadicFits}
-use Rattle.cfi_fits.specs.Widenings.{IsWider}
+use Rattle.cfi_fits.specs.Widening.{IsWider}
 use Rattle.cfi_aux.specs.declared.placed.Placed.{Placed}
 use Rattle.cfi_graph.specs.Direct.{DirectEdge}
 use Rattle.cfi_graph.specs.Facts.{ByName, AreImports}

@@ -1,5 +1,5 @@
--- The links along which control may go in placed modules: what the modules tell, and wider types. A node is a code word,
--- for the function that begins there, or a type's node.
+-- The links along which control may go in placed modules: what the modules tell, and wider types. A node is a code
+-- word, for the function that begins there, or a type's node.
 use Rattle.std.specs.Prelude.{◌↔◌, ◌⊎◌, ℕ, ◌+◌, List}
 use Rattle.cfi_word.specs.declared.limits.TheConstants.{MAX_CODE_WORDS}
 use Rattle.cfi_flow.specs.declared.links.Link.{Link}

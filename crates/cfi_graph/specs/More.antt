@@ -1,5 +1,5 @@
--- What one module more tells behind others: its own facts, and those of checks of the others that import a name which no
--- function had before and one of its functions has. The facts of the others stay.
+-- What one module more tells behind others: its own facts, and those of checks of the others that import a name which
+-- no function had before and one of its functions has. The facts of the others stay.
 use Rattle.std.specs.Prelude.{◌≡◌, ◌⊎◌, ℕ, List, [], None, length}
 use Rattle.std.specs.List.{Contains}
 use Rattle.cfi_unit.specs.declared.unit.Unit.{Unit as CodeUnit}

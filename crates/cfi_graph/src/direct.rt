@@ -78,8 +78,8 @@ fn flow_of(alloc: Global, modules: &[Placed]) -> Result<Flow, AllocError>
 ///
 /// An edge goes from a branch, told by its slot, to a code address in bytes. The modules are shaped and lie apart, in
 /// the order of their places. The work is proportional to the modules and the edges; where calls enter functions from
-/// which many functions are reached along tail calls, or to whose types many fit, to what is reached. MCFI (Niu and Tan,
-/// PLDI 2014).
+/// which many functions are reached along tail calls, or to whose types many fit, to what is reached. MCFI (Niu and
+/// Tan, PLDI 2014).
 pub fn edges(alloc: Global, modules: &[Placed]) -> Result<Vec<Edge>, AllocError>
     requires { HaveGraph modules.now }
     ensures { IfOk result (λ edges. AreDirectEdges modules.now edges.items) }
@@ -91,9 +91,9 @@ pub fn edges(alloc: Global, modules: &[Placed]) -> Result<Vec<Edge>, AllocError>
 /// Some of the direct edges of the modules, by slot and then by address, each once: a chain of them joins what any
 /// direct edge joins.
 ///
-/// There are at most two for each word of code, four for each function, two for each entry of a switch and four for each
-/// node of a type, and not one for each pair of a branch and an address. The work is proportional to the modules, but for sorting. The modules are as
-/// `edges` takes them.
+/// There are at most two for each word of code, four for each function, two for each entry of a switch and four for
+/// each node of a type, and not one for each pair of a branch and an address. The work is proportional to the modules,
+/// but for sorting. The modules are as `edges` takes them.
 pub fn spanning(alloc: Global, modules: &[Placed]) -> Result<Vec<Edge>, AllocError>
     requires { HaveGraph modules.now }
     ensures edges { IfOk result (λ edges. SpanDirectEdges modules.now edges.items) }

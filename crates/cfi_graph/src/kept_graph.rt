@@ -93,10 +93,10 @@ impl KeptGraph {
 
     /// The links of the modules and of one more, where these are those of the modules alone. They stay as they are.
     ///
-    /// Together the modules are as `edges` takes them. Of the old ones numbers of types and kinds of types and branches are
-    /// looked at, and types where they are new with a module. Names of functions are looked at only where the new module
-    /// imports some, or has some that old ones import, and code only where it imports a name that only the new module's
-    /// functions have.
+    /// Together the modules are as `edges` takes them. Of the old ones numbers of types and kinds of types and branches
+    /// are looked at, and types where they are new with a module. Names of functions are looked at only where the new
+    /// module imports some, or has some that old ones import, and code only where it imports a name that only the new
+    /// module's functions have.
     pub fn extended(
         &self,
         alloc: Global,

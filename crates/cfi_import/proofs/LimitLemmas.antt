@@ -3,7 +3,7 @@ use Rattle.std.proofs.Common.{◌≡◌, ℕ, ◌*◌, ◌≤◌, Option, None, 
 use Rattle.elf_read.specs.declared.fault.Limit.{Limit}
 use Rattle.cfi_word.specs.declared.limits.TheConstants.{MAX_SYMBOLS, MAX_RELOCS, MAX_WORDS, MAX_DATA, MAX_NODES, MAX_FUNCTIONS, MAX_BRANCHES}
 use Rattle.cfi_import.specs.declared.object_sizes.Sizes.{Sizes}
-use Rattle.cfi_import.specs.Limits.{unless_above, passed}
+use Rattle.cfi_import.specs.Limit.{unless_above, passed}
 
 -- a limit that is not passed
 pub record NotAbove (limit number : ℕ) (next : Option Limit) : Type 0 where

@@ -17,7 +17,7 @@ use Rattle.cfi_aux.specs.declared.records.Function.{Function}
 use Rattle.cfi_aux.specs.declared.records.Kind.{Kind}
 use Rattle.cfi_aux.specs.declared.records.Records.{Records}
 use Rattle.cfi_import.specs.declared.object_sizes.Sizes.{Sizes}
-use Rattle.cfi_import.specs.Limits.{passed, module_sizes}
+use Rattle.cfi_import.specs.Limit.{passed, module_sizes}
 use Rattle.cfi_import.proofs.LimitLemmas.{AreFew, few}
 use Rattle.cfi_import.specs.declared.start.Start.{Start}
 use Rattle.cfi_import.specs.declared.start.TheConstants.{CELL_BYTES}

@@ -13,7 +13,7 @@ use Rattle.elf_read.specs.declared.object.Reloc.{Reloc}
 use Rattle.cfi_aux.specs.Records.{padding}
 use Rattle.cfi_aux.specs.declared.modules.Module.{Module}
 use Rattle.cfi_import.specs.declared.object_sizes.Sizes.{Sizes}
-use Rattle.cfi_import.specs.Limits.{unless_above, passed, module_sizes}
+use Rattle.cfi_import.specs.Limit.{unless_above, passed, module_sizes}
 use Rattle.cfi_import.specs.declared.start.Start.{Start}
 use Rattle.cfi_import.specs.declared.start.TheConstants.{STUB_BYTES, CELL_BYTES, STUB_SYMBOLS}
 use Rattle.cfi_import.specs.Imports.{names_of, place_of}

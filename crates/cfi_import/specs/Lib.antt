@@ -1,4 +1,4 @@
-pub mod Limits
+pub mod Limit
 pub mod Imports
 pub mod Start
 pub mod Stubs

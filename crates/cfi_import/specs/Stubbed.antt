@@ -14,7 +14,7 @@ use Rattle.cfi_aux.specs.declared.modules.Module.{Module}
 use Rattle.cfi_aux.specs.declared.records.Function.{Function}
 use Rattle.cfi_aux.specs.declared.records.Kind.{Kind}
 use Rattle.cfi_import.specs.declared.object_sizes.Sizes.{Sizes}
-use Rattle.cfi_import.specs.Limits.{passed}
+use Rattle.cfi_import.specs.Limit.{passed}
 use Rattle.cfi_import.specs.declared.fault.StubFault.{StubFault}
 use Rattle.cfi_import.specs.declared.fault.StubFault.TheVariants.{TooMany, Memory}
 use Rattle.cfi_import.specs.declared.start.Start.{Start}

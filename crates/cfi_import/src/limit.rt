@@ -1,7 +1,7 @@
 //! The first limit that sizes pass.
 
 ghost use Rattle.std.specs.Prelude.{◌≡◌};
-ghost use Rattle.cfi_import.specs.Limits.{unless_above, passed};
+ghost use Rattle.cfi_import.specs.Limit.{unless_above, passed};
 
 use crate::object_sizes::Sizes;
 use cfi_word::limits::{

@@ -1,7 +1,7 @@
 //! How much an object has.
 
 ghost use Rattle.std.specs.Prelude.{◌≡◌};
-ghost use Rattle.cfi_import.specs.Limits.{module_sizes};
+ghost use Rattle.cfi_import.specs.Limit.{module_sizes};
 
 use cfi_aux::Module;
 

@@ -8,7 +8,7 @@ ghost use Rattle.cfi_import.specs.Stubbed.{with_relocs};
 ghost use Rattle.cfi_import.specs.inner.Found.{place_in};
 ghost use Rattle.cfi_import.specs.inner.Room.{HasRoom, IsPlace, IsSmallNumber};
 
-use crate::found::leads;
+use crate::imports::leads;
 use crate::start::{STUB_SYMBOLS, Start, text_end};
 use elf_read::relocation::{HI20, LO12_I};
 use elf_read::{Area, Reloc};

@@ -13,7 +13,7 @@ use Rattle.elf_read.specs.Lists.{Each, Breaks, own_number}
 use Rattle.cfi_verify.specs.Spots.{checks_of}
 use Rattle.cfi_unit.specs.Spots.{AreSpots}
 use Rattle.cfi_verify.specs.Branches.{KindFits, EntriesFit}
-use Rattle.cfi_verify.specs.Faults.{check_place, FaultStandsIn, IsFault, IsLaidOut}
+use Rattle.cfi_verify.specs.Fault.{check_place, FaultStandsIn, IsFault, IsLaidOut}
 use Rattle.cfi_verify.proofs.ListLemmas.{no_break}
 use Rattle.cfi_verify.proofs.RowLemmas.{clear_laid}
 use Rattle.cfi_unit.proofs.SpotLemmas.{AreSpots-one}

@@ -4,7 +4,7 @@ use Rattle.std.proofs.lemmas.List.Elements.{All-from_recursion, All-map, All-wea
 use Rattle.elf_read.specs.declared.object.Object.{Object}
 use Rattle.cfi_type_table.specs.Node.{Node}
 use Rattle.cfi_type_table.specs.Kind.{is_callable}
-use Rattle.cfi_aux.specs.Module.{IsModuleOf}
+use Rattle.cfi_aux.specs.Modules.{IsModuleOf}
 use Rattle.cfi_aux.specs.Records.{IsFunction, IsBranch}
 use Rattle.cfi_aux.specs.declared.modules.Module.{Module}
 use Rattle.cfi_aux.specs.declared.records.Function.{Function}

@@ -13,7 +13,7 @@ use Rattle.cfi_place.specs.Names.{Names}
 use Rattle.cfi_place.specs.Placed.{IsRoom, IsPlaced}
 use Rattle.cfi_verify.specs.declared.fault.VerifyFault.{VerifyFault}
 use Rattle.cfi_verify.specs.declared.fault.VerifyFault.TheVariants.{Target}
-use Rattle.cfi_verify.specs.Faults.{FaultStands}
+use Rattle.cfi_verify.specs.Fault.{FaultStands}
 
 -- the node that a branch names is the type of a function
 abbrev pub NamesCallable : (types : List Node) → Kind → Type 0

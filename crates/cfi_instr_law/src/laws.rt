@@ -2,14 +2,14 @@
 
 ghost use Rattle.std.specs.Prelude.{◌≡◌, ◌⊎◌, List};
 ghost use Rattle.elf_read.specs.declared.object.Object.{Object};
-ghost use Rattle.cfi_aux.specs.Module.{IsModuleOf};
+ghost use Rattle.cfi_aux.specs.Modules.{IsModuleOf};
 ghost use Rattle.cfi_aux.specs.declared.modules.Module.{Module};
 ghost use Rattle.cfi_aux.specs.declared.placed.Placed.{Placed};
 ghost use Rattle.cfi_instr.specs.Output.{IsInstrumented};
 ghost use Rattle.cfi_place.specs.declared.room.Room.{Room};
 ghost use Rattle.cfi_place.specs.Names.{Names};
 ghost use Rattle.cfi_verify.specs.Example.{loop_module};
-ghost use Rattle.cfi_verify.specs.Faults.{IsFault};
+ghost use Rattle.cfi_verify.specs.Fault.{IsFault};
 ghost use Rattle.cfi_verify.specs.declared.fault.VerifyFault.{VerifyFault};
 ghost use Rattle.cfi_verify.specs.declared.fault.VerifyFault.TheVariants.{Memory};
 ghost use Rattle.cfi_instr_law.specs.Example.{loop_source, loop_room, no_names};

@@ -6,7 +6,7 @@ use Rattle.cfi_aux.specs.declared.placed.Placed.{Placed}
 use Rattle.cfi_graph.specs.Direct.{DirectEdge}
 use Rattle.cfi_policy.specs.Book.{KeptImage, StandsFor}
 use Rattle.cfi_policy.specs.Image.{IsImage, HaveImage}
-use Rattle.cfi_series.specs.Series.{Series, without_last, HasJoined}
+use Rattle.cfi_modules.specs.Series.{Series, without_last, HasJoined}
 use Rattle.cfi_ledger.specs.Roster.{IsBookOfSeries}
 use Rattle.cfi_ledger.proofs.JoinedLemmas.{init_of}
 

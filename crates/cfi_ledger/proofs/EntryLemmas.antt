@@ -9,7 +9,7 @@ use Rattle.cfi_graph.specs.Direct.{DirectEdge}
 use Rattle.cfi_model.specs.declared.history.Entry.{Entry as TableEntry}
 use Rattle.cfi_plan.specs.declared.plan.Plan.{Plan}
 use Rattle.cfi_policy.specs.Image.{IsImage}
-use Rattle.cfi_series.specs.Loaded.{AreLoaded, AreAmong, IsLoadedImage}
+use Rattle.cfi_modules.specs.Loaded.{AreLoaded, AreAmong, IsLoadedImage}
 use Rattle.cfi_valid.specs.Course.{Course}
 use Rattle.cfi_valid.specs.Growth.{IsLater}
 use Rattle.cfi_valid.specs.Loaded.{LoadedModule, placed_modules, loaded_by}

@@ -10,11 +10,11 @@ use Rattle.std.proofs.lemmas.Option.{get_or_from_slice_get, slice_get-get_or, sl
 use Rattle.cfi_aux.specs.declared.modules.Module.{Module}
 use Rattle.cfi_aux.specs.declared.placed.Placed.{Placed}
 use Rattle.cfi_plan.specs.declared.journal.ModuleLine.{ModuleLine}
-use Rattle.cfi_series.specs.declared.fault.JoinFault.{JoinFault}
+use Rattle.cfi_modules.specs.declared.fault.JoinFault.{JoinFault}
 use Rattle.cfi_ledger.specs.declared.books.Books.{Books}
 use Rattle.cfi_ledger.specs.declared.finding.Finding.{Finding}
 use Rattle.cfi_ledger.specs.declared.finding.Outcome.{Outcome}
-use Rattle.cfi_ledger.specs.Findings.{AreFindings, DoesJoin, IsFinding, JoinsBut, fault_by}
+use Rattle.cfi_ledger.specs.Finding.{AreFindings, DoesJoin, IsFinding, JoinsBut, fault_by}
 use Rattle.cfi_ledger.specs.Loads.{IsUnprepared}
 use Rattle.cfi_ledger.specs.Roster.{Roster}
 

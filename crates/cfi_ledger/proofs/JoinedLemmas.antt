@@ -4,9 +4,9 @@ use Rattle.std.proofs.Math.Seq.{take-length}
 use Rattle.std.proofs.lemmas.List.{map-append, take-append-le}
 use Rattle.cfi_aux.specs.declared.modules.Module.{Module}
 use Rattle.cfi_plan.specs.declared.journal.ModuleLine.{ModuleLine}
-use Rattle.cfi_series.specs.Image.{IsOrderedImage}
-use Rattle.cfi_series.specs.Order.{Joins}
-use Rattle.cfi_series.specs.Series.{Series, with_module, without_last, HasJoined as SeriesHasJoined}
+use Rattle.cfi_modules.specs.Image.{IsOrderedImage}
+use Rattle.cfi_modules.specs.Order.{Joins}
+use Rattle.cfi_modules.specs.Series.{Series, with_module, without_last, HasJoined as SeriesHasJoined}
 use Rattle.cfi_aux.specs.declared.placed.Placed.{Placed}
 use Rattle.cfi_plan.specs.declared.plan.PlanModule.{PlanModule}
 use Rattle.cfi_valid.specs.Loaded.{LoadedModule, module_line_of, planned_name}

@@ -7,9 +7,9 @@ use Rattle.cfi_graph.specs.Direct.{DirectEdge}
 use Rattle.cfi_model.specs.Closed.{IsClosed}
 use Rattle.cfi_plan.specs.declared.plan.Plan.{Plan}
 use Rattle.cfi_policy.specs.Image.{IsImage}
-use Rattle.cfi_series.specs.Loaded.{AreLoaded}
-use Rattle.cfi_series.proofs.GraphLemmas.{are_loaded}
-use Rattle.cfi_series.proofs.ImageLemmas.{closed}
+use Rattle.cfi_modules.specs.Loaded.{AreLoaded}
+use Rattle.cfi_modules.proofs.GraphLemmas.{are_loaded}
+use Rattle.cfi_modules.proofs.ImageLemmas.{closed}
 use Rattle.cfi_valid.specs.Guests.{EntersIn, GuestBegins}
 use Rattle.cfi_valid.specs.Journal.{IsJournal}
 use Rattle.cfi_valid.specs.Loaded.{LoadedModule, placed_modules, loaded_by}

@@ -4,7 +4,7 @@ use Rattle.std.proofs.lemmas.List.Elements.{All-nil, All-cons}
 use Rattle.cfi_aux.specs.declared.modules.Module.{Module}
 use Rattle.cfi_plan.specs.Plan.{IsPlan, IsScriptLine}
 use Rattle.cfi_plan.specs.declared.plan.Plan.{Plan}
-use Rattle.cfi_series.specs.Series.{CanBeTaken}
+use Rattle.cfi_modules.specs.Series.{CanBeTaken}
 use Rattle.cfi_plan.specs.Bare.{bare_plan}
 use Rattle.cfi_ledger.specs.Plans.{CanStart}
 

@@ -11,7 +11,7 @@ use Rattle.cfi_plan.specs.declared.journal.JournalLine.{JournalLine}
 use Rattle.cfi_plan.specs.declared.journal.JournalLine.TheVariants.{LoadOk, LoadAgain, LoadFull, LoadPlace, LoadVerify, LoadVersions, LoadEpochs, RefreshOk, RefreshVersions, RefreshEpochs}
 use Rattle.cfi_plan.specs.Draft.{starts}
 use Rattle.cfi_plan.specs.declared.plan.Plan.{Plan}
-use Rattle.cfi_series.proofs.OrderLemmas.{left, last}
+use Rattle.cfi_modules.proofs.OrderLemmas.{left, last}
 use Rattle.cfi_valid.specs.Growth.{IsLater}
 use Rattle.cfi_valid.specs.Journal.{JournalState, with_loaded, IsOpeningState, LineLeads, EntriesLead, IsJournal}
 use Rattle.cfi_valid.specs.Loaded.{LoadedModule}

@@ -2,7 +2,7 @@ pub mod Plans
 pub mod Calls
 pub mod Journal
 pub mod Roster
-pub mod Findings
+pub mod Finding
 pub mod Entries
 pub mod Starts
 pub mod Books

@@ -2,8 +2,8 @@
 use Rattle.std.specs.Prelude.{◌≡◌, ◌≢◌, ℕ, ◌+◌, ◌<◌, ◌≤◌, length, slice_get, slice_index_or, Some, All, ⊤}
 use Rattle.cfi_aux.specs.declared.modules.Module.{Module}
 use Rattle.cfi_plan.specs.declared.journal.ModuleLine.{ModuleLine}
-use Rattle.cfi_series.specs.declared.fault.JoinFault.{JoinFault}
-use Rattle.cfi_series.specs.Order.{IsJoinFault}
+use Rattle.cfi_modules.specs.declared.fault.JoinFault.{JoinFault}
+use Rattle.cfi_modules.specs.Order.{IsJoinFault}
 use Rattle.cfi_valid.specs.Loaded.{planned_name, IsLoaded}
 use Rattle.cfi_valid.specs.declared.limits.TheConstants.{MAX_LOADED}
 use Rattle.cfi_word.specs.declared.limits.TheConstants.{MAX_EPOCH}
@@ -13,7 +13,7 @@ use Rattle.cfi_ledger.specs.declared.finding.Known.TheVariants.{Nothing, Unjoine
 use Rattle.cfi_ledger.specs.declared.prospect.Prospect.{Prospect}
 use Rattle.cfi_ledger.specs.declared.prospect.Prospect.TheVariants.{Again, Full, Open}
 use Rattle.cfi_ledger.specs.Books.{loaded_in}
-use Rattle.cfi_ledger.specs.Findings.{DoesJoin}
+use Rattle.cfi_ledger.specs.Finding.{DoesJoin}
 use Rattle.cfi_ledger.specs.Roster.{Roster, HasJoined}
 
 -- the module of the number stands at this place in load order

@@ -3,8 +3,8 @@ use Rattle.std.specs.Prelude.{◌≡◌, false, List, [], length, None, replicat
 use Rattle.cfi_aux.specs.declared.modules.Module.{Module}
 use Rattle.cfi_plan.specs.declared.plan.Plan.{Plan}
 use Rattle.cfi_policy.specs.Book.{KeptImage}
-use Rattle.cfi_series.specs.Image.{IsOrderedImage}
-use Rattle.cfi_series.specs.declared.fault.JoinFault.TheVariants as joins
+use Rattle.cfi_modules.specs.Image.{IsOrderedImage}
+use Rattle.cfi_modules.specs.declared.fault.JoinFault.TheVariants as joins
 use Rattle.cfi_valid.specs.Opening.{IsFirstUnjoined, IsFirstLost}
 use Rattle.cfi_valid.specs.Script.{script_calls}
 use Rattle.cfi_word.specs.declared.lists.Image.{Image}

@@ -4,7 +4,7 @@ use Rattle.cfi_aux.specs.declared.modules.Module.{Module}
 use Rattle.cfi_plan.specs.Draft.{starts}
 use Rattle.cfi_plan.specs.Plan.{IsVersions, IsScript}
 use Rattle.cfi_plan.specs.declared.plan.Plan.{Plan}
-use Rattle.cfi_series.specs.Series.{CanBeTaken}
+use Rattle.cfi_modules.specs.Series.{CanBeTaken}
 use Rattle.cfi_word.specs.Table.{IsSize}
 use Rattle.cfi_word.specs.declared.limits.TheConstants.{MAX_EPOCH, MAX_MODULES, MAX_STARTS, GUESTS}
 

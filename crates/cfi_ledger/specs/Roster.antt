@@ -3,11 +3,11 @@ use Rattle.std.specs.Prelude.{◌≡◌, ℕ, ◌+◌, ◌<◌, List, [], ◌∷
 use Rattle.cfi_aux.specs.declared.modules.Module.{Module}
 use Rattle.cfi_aux.specs.declared.placed.Placed.{Placed}
 use Rattle.cfi_plan.specs.declared.journal.ModuleLine.{ModuleLine}
-use Rattle.cfi_series.specs.Fills.{fill_of, fills_of}
+use Rattle.cfi_modules.specs.Fills.{fill_of, fills_of}
 use Rattle.cfi_policy.specs.Book.{KeptImage, StandsFor}
-use Rattle.cfi_series.specs.Image.{IsImageOfSeries}
-use Rattle.cfi_series.specs.Order.{Joins}
-use Rattle.cfi_series.specs.Series.{Series, without_last}
+use Rattle.cfi_modules.specs.Image.{IsImageOfSeries}
+use Rattle.cfi_modules.specs.Order.{Joins}
+use Rattle.cfi_modules.specs.Series.{Series, without_last}
 use Rattle.cfi_valid.specs.Kept.{Origin, loaded_from}
 use Rattle.cfi_valid.specs.Loaded.{LoadedModule}
 use Rattle.cfi_word.specs.declared.lists.Image.{Image}

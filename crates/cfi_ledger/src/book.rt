@@ -3,13 +3,13 @@
 ghost use Rattle.std.specs.Prelude.{◌≡◌, ◌<◌, IfOk, IfErr, length};
 ghost use Rattle.cfi_ledger.specs.Roster.{IsBookOfRoster, IsBookOfSeries};
 ghost use Rattle.cfi_policy.specs.Book.{KeepsNumbers};
-ghost use Rattle.cfi_series.specs.Order.{IsJoinFault};
-ghost use Rattle.cfi_series.specs.Series.{without_last, HasJoined, CanBeTaken};
+ghost use Rattle.cfi_modules.specs.Order.{IsJoinFault};
+ghost use Rattle.cfi_modules.specs.Series.{without_last, HasJoined, CanBeTaken};
 
 use crate::roster::Roster;
 use cfi_aux::Module;
 use cfi_policy::{Book, code_of};
-use cfi_series::{JoinFault, Prepared, Refused, Series};
+use cfi_modules::{JoinFault, Prepared, Refused, Series};
 use std::alloc::{AllocError, Global};
 
 // The book of the modules, with its classes in the order of their least slots.

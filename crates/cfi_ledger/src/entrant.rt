@@ -1,7 +1,7 @@
 //! A module that is to join those that are loaded.
 
 ghost use Rattle.std.specs.Prelude.{◌≡◌, ◌<◌, IfOk, OnOk, length, vec_len, vec_capacity};
-ghost use Rattle.cfi_series.specs.Fills.{fill_of};
+ghost use Rattle.cfi_modules.specs.Fills.{fill_of};
 ghost use Rattle.cfi_ledger.specs.Roster.{line_by};
 ghost use Rattle.cfi_valid.specs.Loaded.{planned_name};
 

@@ -1,7 +1,7 @@
 //! Where the guests of a plan begin.
 
 ghost use Rattle.std.specs.Prelude.{◌≡◌, ◌≤◌, ℕ, Some, All, IfSome, IfNone, length};
-ghost use Rattle.cfi_series.specs.Entry.{HasAddresses};
+ghost use Rattle.cfi_modules.specs.Entry.{HasAddresses};
 ghost use Rattle.cfi_valid.specs.Bare.{is_bare_plan, has_no_file};
 ghost use Rattle.cfi_valid.specs.Guests.{EntersIn};
 ghost use Rattle.cfi_word.specs.declared.limits.TheConstants.{GUESTS};
@@ -9,7 +9,7 @@ ghost use Rattle.cfi_ledger.specs.Entries.{AllEnter, IsFirstOut};
 
 use cfi_aux::Placed;
 use cfi_plan::{Plan, PlanModule};
-use cfi_series::entry_in;
+use cfi_modules::entry_in;
 use cfi_values::Text;
 use cfi_word::map::FIRST_BASE;
 

@@ -3,12 +3,12 @@
 ghost use Rattle.std.specs.Prelude.{◌≡◌, None, Some, IfOk, IfSome, replicate};
 ghost use Rattle.cfi_place.specs.Value.{name_at};
 ghost use Rattle.cfi_place.specs.declared.fault.PlaceFault.TheVariants.{Undefined};
-ghost use Rattle.cfi_series.specs.declared.fault.JoinFault.TheVariants.{Place};
-ghost use Rattle.cfi_ledger.specs.Findings.{fault_by};
+ghost use Rattle.cfi_modules.specs.declared.fault.JoinFault.TheVariants.{Place};
+ghost use Rattle.cfi_ledger.specs.Finding.{fault_by};
 
 use cfi_aux::Module;
 use cfi_place::PlaceFault;
-use cfi_series::JoinFault;
+use cfi_modules::JoinFault;
 use cfi_verify::VerifyFault;
 use elf_read::{Name, Symbol};
 use rv_reloc::RelocFault;

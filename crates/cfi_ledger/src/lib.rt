@@ -1,6 +1,6 @@
 //! The books of a run: what a plan's loads and opens come to, whatever keeps the tables.
 //!
-//! Stands on `cfi_series`, which places and verifies modules, on `cfi_valid`, in whose words it speaks, and on what
+//! Stands on `cfi_modules`, which places and verifies modules, on `cfi_valid`, in whose words it speaks, and on what
 //! these stand on; `cfi_loader` and `cfi_sim` stand on it. Proved: the start modules and the first fault of opening a
 //! plan are exactly those of its opening; a module joins those that are loaded with the line that a report says of it
 //! and with its data, and may be taken back, or is placed first and taken later; the book of all with it keeps class

@@ -2,14 +2,14 @@
 
 ghost use Rattle.std.specs.Prelude.{◌≡◌, IfOk, IfErr};
 ghost use Rattle.cfi_ledger.specs.Roster.{line_by};
-ghost use Rattle.cfi_series.specs.Image.{IsImageOfSeries, IsOrderedImage};
-ghost use Rattle.cfi_series.specs.Order.{IsJoinFault};
-ghost use Rattle.cfi_series.specs.Series.{HasJoined, CanBeTaken};
+ghost use Rattle.cfi_modules.specs.Image.{IsImageOfSeries, IsOrderedImage};
+ghost use Rattle.cfi_modules.specs.Order.{IsJoinFault};
+ghost use Rattle.cfi_modules.specs.Series.{HasJoined, CanBeTaken};
 
 use crate::entrant::{Entrant, fill_of, line_of};
 use cfi_aux::{Module, Placed};
 use cfi_plan::ModuleLine;
-use cfi_series::{JoinFault, Prepared, Refused, Series};
+use cfi_modules::{JoinFault, Prepared, Refused, Series};
 use cfi_unit::Fill;
 use cfi_word::Image;
 use std::alloc::{AllocError, Global};

@@ -18,7 +18,7 @@ use crate::roster::Roster;
 use cfi_aux::Module;
 use cfi_plan::Plan;
 use cfi_policy::Book;
-use cfi_series::{JoinFault, loaded_have_entries};
+use cfi_modules::{JoinFault, loaded_have_entries};
 use cfi_values::Items;
 use cfi_word::{Image, Layout};
 use std::alloc::Global;

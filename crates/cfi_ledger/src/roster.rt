@@ -2,11 +2,11 @@
 
 ghost use Rattle.std.specs.Prelude.{◌≡◌, ◌<◌, [], IfOk, IfErr, IfSome, IfNone, OnOk, OnErr, length, nat_le};
 ghost use Rattle.cfi_aux.specs.declared.placed.Placed.{Placed as PlacedModule};
-ghost use Rattle.cfi_series.specs.Fills.{fills_of};
-ghost use Rattle.cfi_series.specs.Loaded.{AreLoaded};
-ghost use Rattle.cfi_series.specs.Order.{IsJoinFault, Joins};
-ghost use Rattle.cfi_series.specs.Image.{IsOrderedImage};
-ghost use Rattle.cfi_series.specs.Series.{CanBeTaken, CanRejoin, IsSeries};
+ghost use Rattle.cfi_modules.specs.Fills.{fills_of};
+ghost use Rattle.cfi_modules.specs.Loaded.{AreLoaded};
+ghost use Rattle.cfi_modules.specs.Order.{IsJoinFault, Joins};
+ghost use Rattle.cfi_modules.specs.Image.{IsOrderedImage};
+ghost use Rattle.cfi_modules.specs.Series.{CanBeTaken, CanRejoin, IsSeries};
 ghost use Rattle.cfi_ledger.specs.Loads.{IsListed, IsUnlisted};
 ghost use Rattle.cfi_ledger.specs.Roster.{series_of, with_offer, HasJoined, IsBookOfRoster, IsImageOfRoster, IsOffer};
 ghost use Rattle.cfi_policy.specs.Book.{KeepsNumbers};
@@ -19,7 +19,7 @@ use crate::offer::{Offer, imaged};
 use cfi_aux::{Module, Placed};
 use cfi_plan::ModuleLine;
 use cfi_policy::Book;
-use cfi_series::{JoinFault, Series};
+use cfi_modules::{JoinFault, Series};
 use cfi_unit::Fill;
 use cfi_valid::MAX_LOADED;
 use cfi_word::{Image, Layout};

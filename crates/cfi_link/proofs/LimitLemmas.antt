@@ -7,7 +7,7 @@ use Rattle.cfi_link.specs.declared.limits.Sizes.{Sizes}
 use Rattle.cfi_link.specs.Gap.{gap}
 use Rattle.cfi_link.specs.Joined.{Joined, with_module, joined_of}
 use Rattle.cfi_link.specs.inner.Room.{HasRoom}
-use Rattle.cfi_link.specs.Faults.{sizes_of, unless_above, passed, passed_by}
+use Rattle.cfi_link.specs.Fault.{sizes_of, unless_above, passed, passed_by}
 use Rattle.cfi_link.specs.inner.Capped.{capped, capped_sizes, with_sizes}
 use Rattle.cfi_link.proofs.JoinedLemmas.{IsBelow, with_module-lengths, take-below, take-count, joined-more}
 

@@ -18,7 +18,7 @@ use Rattle.cfi_link.specs.declared.joined.OwnReloc.{OwnReloc}
 use Rattle.cfi_link.specs.Joined.{Joined}
 use Rattle.cfi_link.specs.Chosen.{chosen_in, reaches_of, numbers_of}
 use Rattle.cfi_link.specs.Applied.{applied_from, kept_in, by_area}
-use Rattle.cfi_link.specs.Faults.{sizes_of, passed, relocated_by}
+use Rattle.cfi_link.specs.Fault.{sizes_of, passed, relocated_by}
 use Rattle.cfi_link.specs.Linked.{IsMadeOf, kept_relocs}
 use Rattle.cfi_link.specs.inner.Made.{object_of, AreSound}
 use Rattle.cfi_link.proofs.AppliedLemmas.{applied_same, kept_same}

@@ -21,7 +21,7 @@ use Rattle.elf_read.specs.Sound.{IsInsideArea, HasField, HasSymbol, IsSoundSymbo
 use Rattle.cfi_link.specs.declared.start.Start.{Start}
 use Rattle.cfi_link.specs.Joined.{Joined, nothing, with_module, joined_of, start_of, value_at, offset_at, symbol_at, reloc_at, own_reloc_at, node_at, function_at, branch_at, shifted}
 use Rattle.cfi_link.specs.inner.Room.{HasRoom}
-use Rattle.cfi_link.specs.Faults.{sizes_of, passed, passed_by}
+use Rattle.cfi_link.specs.Fault.{sizes_of, passed, passed_by}
 use Rattle.cfi_link.specs.inner.Made.{object_of, AreSound}
 use Rattle.cfi_link.proofs.CellLemmas.{cells_added}
 use Rattle.cfi_link.proofs.JoinedLemmas.{with_module-lengths, fold-below}

@@ -4,7 +4,7 @@ use Rattle.std.specs.Prelude.{IsSomeAnd}
 use Rattle.std.proofs.lemmas.Option.{slice_get_read}
 use Rattle.cfi_aux.specs.declared.modules.Module.{Module}
 use Rattle.cfi_place.specs.Placed.{bytes_as_words}
-use Rattle.cfi_link.specs.Faults.{HasUnits, IsFirstStray}
+use Rattle.cfi_link.specs.Fault.{HasUnits, IsFirstStray}
 use Rattle.cfi_unit.specs.Spots.{StopsAt}
 
 -- a text that stops is the first one where those before it are units

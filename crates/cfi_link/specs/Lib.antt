@@ -2,6 +2,6 @@ pub mod Gap
 pub mod Joined
 pub mod Chosen
 pub mod Applied
-pub mod Faults
+pub mod Fault
 pub mod Linked
 pub mod inner

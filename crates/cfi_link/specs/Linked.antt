@@ -12,7 +12,7 @@ use Rattle.cfi_place.specs.Slots.{HasSlots}
 use Rattle.cfi_link.specs.Joined.{Joined, joined_of}
 use Rattle.cfi_link.specs.Chosen.{chosen_in, settled, in_order, numbers_of, reaches_of}
 use Rattle.cfi_link.specs.Applied.{kept_in, by_area}
-use Rattle.cfi_link.specs.Faults.{CanBeLinked, relocated_by}
+use Rattle.cfi_link.specs.Fault.{CanBeLinked, relocated_by}
 
 -- modules that break no rule; their number, the bytes of each text and the lengths in their records have words of four
 -- bytes

@@ -4,7 +4,7 @@ ghost use Rattle.std.specs.Prelude.{◌≡◌, ◌+◌, ◌<◌, ◌^◌, None, 
 ghost use Rattle.cfi_aux.specs.Sound.{IsSoundModule};
 ghost use Rattle.cfi_link.specs.Joined.{nothing, with_data, start_of, with_module, joined_of};
 ghost use Rattle.cfi_link.specs.Gap.{gap};
-ghost use Rattle.cfi_link.specs.Faults.{passed_by};
+ghost use Rattle.cfi_link.specs.Fault.{passed_by};
 ghost use Rattle.cfi_link.specs.inner.Room.{HasRoom};
 
 use crate::records::{push_branches, push_functions};

@@ -13,7 +13,7 @@ mod joined;
 mod kept;
 pub mod laws;
 mod limits;
-mod linking;
+mod linked;
 mod numbers;
 mod reach;
 mod records;
@@ -23,4 +23,4 @@ mod start;
 mod texts;
 
 pub use fault::LinkFault;
-pub use linking::link;
+pub use linked::link;

@@ -2,7 +2,7 @@
 
 ghost use Rattle.std.specs.Prelude.{◌≡◌};
 ghost use Rattle.cfi_link.specs.Joined.{joined_of};
-ghost use Rattle.cfi_link.specs.Faults.{sizes_of, unless_above, passed, passed_by};
+ghost use Rattle.cfi_link.specs.Fault.{sizes_of, unless_above, passed, passed_by};
 ghost use Rattle.cfi_link.specs.inner.Capped.{capped_sizes, with_sizes};
 
 use crate::start::gap;

@@ -2,7 +2,7 @@
 
 ghost use Rattle.std.specs.Prelude.{◌≡◌, ◌<◌, ◌^◌, All, length, IfOk, IfSome, IfNone, IfErr, OnOk};
 ghost use Rattle.cfi_link.specs.inner.Kept.{IsTextFault};
-ghost use Rattle.cfi_link.specs.Faults.{has_text, HaveTexts};
+ghost use Rattle.cfi_link.specs.Fault.{has_text, HaveTexts};
 ghost use Rattle.cfi_unit.specs.Spots.{AreUnits, StopsAt};
 
 use crate::fault::LinkFault;

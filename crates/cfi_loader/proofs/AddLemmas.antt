@@ -5,13 +5,13 @@ use Rattle.cfi_aux.specs.declared.placed.Placed.{Placed}
 use Rattle.cfi_plan.specs.declared.journal.JournalLine.{JournalLine}
 use Rattle.cfi_plan.specs.declared.journal.JournalLine.TheVariants.{LoadAgain, LoadFull, LoadPlace, LoadVerify, LoadEpochs}
 use Rattle.cfi_plan.specs.declared.journal.Who.{Who}
-use Rattle.cfi_series.specs.Numbers.{numbers_of}
-use Rattle.cfi_series.specs.Order.{IsJoinFault, Joins}
-use Rattle.cfi_series.specs.declared.fault.JoinFault.{JoinFault}
-use Rattle.cfi_series.specs.declared.fault.JoinFault.TheVariants.{Place, Verify, Memory}
-use Rattle.cfi_series.specs.declared.numbers.FaultNumbers.{FaultNumbers}
-use Rattle.cfi_series.specs.declared.numbers.FaultNumbers.TheVariants as numbers
-use Rattle.cfi_series.proofs.NumberLemmas.{has_numbers}
+use Rattle.cfi_modules.specs.Numbers.{numbers_of}
+use Rattle.cfi_modules.specs.Order.{IsJoinFault, Joins}
+use Rattle.cfi_modules.specs.declared.fault.JoinFault.{JoinFault}
+use Rattle.cfi_modules.specs.declared.fault.JoinFault.TheVariants.{Place, Verify, Memory}
+use Rattle.cfi_modules.specs.declared.numbers.FaultNumbers.{FaultNumbers}
+use Rattle.cfi_modules.specs.declared.numbers.FaultNumbers.TheVariants as numbers
+use Rattle.cfi_modules.proofs.NumberLemmas.{has_numbers}
 use Rattle.cfi_place.specs.declared.fault.PlaceFault.{PlaceFault}
 use Rattle.cfi_verify.specs.declared.fault.VerifyFault.{VerifyFault}
 use Rattle.cfi_tables.specs.Faults.{epoch_after}

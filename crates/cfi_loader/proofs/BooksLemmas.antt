@@ -20,7 +20,7 @@ use Rattle.cfi_word.specs.declared.limits.TheConstants.{MAX_EPOCH}
 use Rattle.cfi_ledger.specs.declared.books.Books.{Books}
 use Rattle.cfi_ledger.specs.Policies.{HavePolicies, IsEntryOf}
 use Rattle.cfi_loader.specs.Ledger.{TellsOf}
-use Rattle.cfi_loader.specs.Marks.{mark_of, is_made, spent_in}
+use Rattle.cfi_loader.specs.Mark.{mark_of, is_made, spent_in}
 use Rattle.cfi_ledger.specs.Journal.{asked_by}
 use Rattle.cfi_loader.specs.Told.{GoesOnBy, MayAskFor, HasTold, KeepsAfter}
 use Rattle.cfi_ledger.specs.Books.{course_in, end_of_books, IsRosterOf}

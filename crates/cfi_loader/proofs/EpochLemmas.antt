@@ -9,7 +9,7 @@ use Rattle.cfi_plan.specs.declared.journal.JournalLine.{JournalLine}
 use Rattle.cfi_plan.specs.declared.journal.JournalLine.TheVariants.{LoadOk, LoadAgain, LoadFull, LoadPlace, LoadVerify, LoadVersions, LoadEpochs, RefreshOk, RefreshVersions, RefreshEpochs}
 use Rattle.cfi_tables.specs.Keeping.{last_of}
 use Rattle.cfi_loader.specs.Epochs.{HavePoliciesOf, epoch_policies, epochs_with, last_policy_of, policy_put}
-use Rattle.cfi_loader.specs.Marks.{is_made}
+use Rattle.cfi_loader.specs.Mark.{is_made}
 
 -- a line of no update puts none in force
 none_put : (before : ℕ) (line : JournalLine) → is_made line ≡ false → policy_put before line ≡ []

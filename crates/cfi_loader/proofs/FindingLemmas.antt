@@ -8,7 +8,7 @@ use Rattle.cfi_loader.specs.declared.fault.LoadFault.{LoadFault}
 use Rattle.cfi_loader.specs.Results.{IsLoadFault}
 use Rattle.cfi_loader.specs.Told.{MayAskFor}
 use Rattle.cfi_loader.specs.inner.Books.{ledger_of, BooksAgree}
-use Rattle.cfi_ledger.specs.Findings.{AreFindings}
+use Rattle.cfi_ledger.specs.Finding.{AreFindings}
 use Rattle.cfi_ledger.specs.Loads.{IsAbsent}
 use Rattle.cfi_valid.specs.Script.{Load}
 use Rattle.cfi_loader.specs.inner.Loads.{Refuses}

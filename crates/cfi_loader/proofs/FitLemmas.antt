@@ -3,12 +3,12 @@ use Rattle.std.proofs.Common.{◌≡◌, ℕ, Some, None, sym, ap, subst, ◌∙
 use Rattle.cfi_aux.specs.declared.modules.Module.{Module}
 use Rattle.cfi_plan.specs.declared.journal.JournalLine.{JournalLine}
 use Rattle.cfi_plan.specs.declared.journal.JournalLine.TheVariants.{LoadOk, LoadAgain, LoadFull, LoadPlace, LoadVerify, LoadVersions, LoadEpochs, RefreshOk, RefreshVersions, RefreshEpochs}
-use Rattle.cfi_series.specs.Numbers.{numbers_of}
-use Rattle.cfi_series.specs.Order.{IsJoinFault}
-use Rattle.cfi_series.specs.declared.fault.JoinFault.{JoinFault}
-use Rattle.cfi_series.specs.declared.fault.JoinFault.TheVariants.{Memory}
-use Rattle.cfi_series.specs.declared.numbers.FaultNumbers.{FaultNumbers}
-use Rattle.cfi_series.proofs.OrderLemmas.{joins_or_refused}
+use Rattle.cfi_modules.specs.Numbers.{numbers_of}
+use Rattle.cfi_modules.specs.Order.{IsJoinFault}
+use Rattle.cfi_modules.specs.declared.fault.JoinFault.{JoinFault}
+use Rattle.cfi_modules.specs.declared.fault.JoinFault.TheVariants.{Memory}
+use Rattle.cfi_modules.specs.declared.numbers.FaultNumbers.{FaultNumbers}
+use Rattle.cfi_modules.proofs.OrderLemmas.{joins_or_refused}
 use Rattle.cfi_valid.specs.Course.{Course}
 use Rattle.cfi_valid.specs.Joining.{IsFull, HasFault}
 use Rattle.cfi_valid.specs.Journal.{JournalState, LineLeads, IsTooOld}

@@ -10,7 +10,7 @@ use Rattle.cfi_plan.specs.declared.journal.Who.{Who}
 use Rattle.cfi_plan.specs.declared.journal.Who.TheVariants.{Script, Guest}
 use Rattle.cfi_valid.specs.Script.{Call, call_of, is_script, made_by_script}
 use Rattle.cfi_ledger.specs.Calls.{calls_after}
-use Rattle.cfi_loader.specs.Marks.{mark_of, is_made, made_marks, Spent, spent_in}
+use Rattle.cfi_loader.specs.Mark.{mark_of, is_made, made_marks, Spent, spent_in}
 
 -- ---- marks
 

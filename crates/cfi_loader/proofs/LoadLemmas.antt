@@ -18,13 +18,13 @@ use Rattle.cfi_plan.specs.declared.journal.Who.{Who}
 use Rattle.cfi_policy.specs.Book.{KeptImage}
 use Rattle.cfi_policy.specs.Code.{IsCodeOf}
 use Rattle.cfi_policy.specs.Image.{IsImage}
-use Rattle.cfi_series.specs.Loaded.{AreLoaded}
-use Rattle.cfi_series.specs.Order.{Joins}
-use Rattle.cfi_series.specs.Series.{IsSeries}
-use Rattle.cfi_series.proofs.GraphLemmas.{are_loaded}
-use Rattle.cfi_series.proofs.GrowthLemmas.{code_kept}
-use Rattle.cfi_series.proofs.ImageLemmas.{closed}
-use Rattle.cfi_series.proofs.OrderLemmas.{series_more}
+use Rattle.cfi_modules.specs.Loaded.{AreLoaded}
+use Rattle.cfi_modules.specs.Order.{Joins}
+use Rattle.cfi_modules.specs.Series.{IsSeries}
+use Rattle.cfi_modules.proofs.GraphLemmas.{are_loaded}
+use Rattle.cfi_modules.proofs.GrowthLemmas.{code_kept}
+use Rattle.cfi_modules.proofs.ImageLemmas.{closed}
+use Rattle.cfi_modules.proofs.OrderLemmas.{series_more}
 use Rattle.cfi_tables.specs.Keeping.{Keeping, entry_by, grown_by, last_of}
 use Rattle.cfi_tables.specs.Key.{Key}
 use Rattle.cfi_tables.specs.declared.view.Quiets.{Quiets}
@@ -40,7 +40,7 @@ use Rattle.cfi_word.specs.declared.lists.Image.{Image}
 use Rattle.cfi_ledger.specs.declared.books.Books.{Books}
 use Rattle.cfi_ledger.specs.Policies.{HavePolicies, IsEntryOf}
 use Rattle.cfi_loader.specs.Ledger.{TellsOf}
-use Rattle.cfi_loader.specs.Marks.{mark_of}
+use Rattle.cfi_loader.specs.Mark.{mark_of}
 use Rattle.cfi_ledger.specs.Journal.{asked_by}
 use Rattle.cfi_loader.specs.Told.{GoesOnBy, MayAskFor, HasTold}
 use Rattle.cfi_ledger.specs.Books.{course_in, end_of_books, loaded_in}

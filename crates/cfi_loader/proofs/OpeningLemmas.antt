@@ -14,7 +14,7 @@ use Rattle.cfi_plan.specs.declared.journal.Entry.{Entry}
 use Rattle.cfi_plan.specs.declared.plan.Plan.{Plan}
 use Rattle.cfi_policy.specs.Book.{KeptImage}
 use Rattle.cfi_policy.specs.Image.{IsImage}
-use Rattle.cfi_series.specs.Loaded.{AreLoaded}
+use Rattle.cfi_modules.specs.Loaded.{AreLoaded}
 use Rattle.cfi_tables.specs.Key.{Key, Named, key_by}
 use Rattle.cfi_tables.specs.Keeping.{is_out, opened_keeping}
 use Rattle.cfi_valid.specs.Journal.{IsOpeningState, IsJournal}
@@ -24,13 +24,13 @@ use Rattle.cfi_ledger.specs.declared.books.Books.{Books}
 use Rattle.cfi_ledger.specs.Policies.{IsEntryOf}
 use Rattle.cfi_loader.specs.Ledger.{TellsOf}
 use Rattle.cfi_loader.specs.Epochs.{HavePoliciesOf}
-use Rattle.cfi_loader.specs.Marks.{AreMade, AreRefused}
+use Rattle.cfi_loader.specs.Mark.{AreMade, AreRefused}
 use Rattle.cfi_ledger.specs.Plans.{CanStart}
-use Rattle.cfi_loader.specs.Starting.{IsStarted}
+use Rattle.cfi_loader.specs.Start.{IsStarted}
 use Rattle.cfi_ledger.specs.Books.{course_in, end_of_books}
 use Rattle.cfi_loader.specs.inner.Books.{ledger_of, BooksAgree}
 use Rattle.cfi_ledger.specs.Entries.{AllEnter}
-use Rattle.cfi_ledger.specs.Findings.{AreFindings}
+use Rattle.cfi_ledger.specs.Finding.{AreFindings}
 use Rattle.cfi_ledger.specs.Journal.{Minutes}
 use Rattle.cfi_ledger.specs.Opening.{books_at, AreOpeningBooks}
 use Rattle.cfi_ledger.specs.Roster.{Roster, IsBookOfRoster, origin_of}

@@ -9,7 +9,7 @@ use Rattle.cfi_plan.specs.declared.journal.JournalLine.TheVariants.{LoadOk}
 use Rattle.cfi_plan.specs.declared.journal.Who.{Who}
 use Rattle.cfi_policy.specs.Book.{KeptImage}
 use Rattle.cfi_policy.specs.Image.{IsImage}
-use Rattle.cfi_series.specs.Order.{Joins}
+use Rattle.cfi_modules.specs.Order.{Joins}
 use Rattle.cfi_tables.specs.Faults.{epoch_after}
 use Rattle.cfi_tables.specs.Keeping.{Keeping, entry_by, grown_by, last_of}
 use Rattle.cfi_tables.specs.Key.{Key}
@@ -18,7 +18,7 @@ use Rattle.cfi_valid.specs.Journal.{IsClean}
 use Rattle.cfi_valid.specs.Script.{Load}
 use Rattle.cfi_word.specs.declared.limits.TheConstants.{MAX_EPOCH}
 use Rattle.cfi_ledger.specs.declared.books.Books.{Books}
-use Rattle.cfi_loader.specs.Marks.{mark_by}
+use Rattle.cfi_loader.specs.Mark.{mark_by}
 use Rattle.cfi_ledger.specs.Journal.{asked_by}
 use Rattle.cfi_loader.specs.Told.{MayAskFor}
 use Rattle.cfi_ledger.specs.Books.{end_of_books}

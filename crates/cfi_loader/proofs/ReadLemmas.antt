@@ -5,8 +5,8 @@ use Rattle.std.proofs.lemmas.List.{take-map}
 use Rattle.std.proofs.lemmas.List.Elements.{All-drop}
 use Rattle.cfi_aux.specs.declared.placed.Placed.{Placed}
 use Rattle.cfi_model.specs.Data.{LiesInData}
-use Rattle.cfi_series.specs.Fills.{fills_of}
-use Rattle.cfi_series.proofs.PrefixLemmas.{data_lies}
+use Rattle.cfi_modules.specs.Fills.{fills_of}
+use Rattle.cfi_modules.proofs.PrefixLemmas.{data_lies}
 use Rattle.cfi_tables.specs.Keeping.{Keeping}
 use Rattle.cfi_tables.specs.Key.{Key}
 use Rattle.cfi_valid.specs.Guests.{EntersIn, GuestBegins}

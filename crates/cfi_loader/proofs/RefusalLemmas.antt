@@ -20,7 +20,7 @@ use Rattle.cfi_valid.specs.Log.{is_versions}
 use Rattle.cfi_valid.specs.Script.{Load}
 use Rattle.cfi_word.specs.declared.limits.TheConstants.{GUESTS, MAX_MODULES}
 use Rattle.cfi_loader.specs.Ledger.{Ledger, IsLedger}
-use Rattle.cfi_loader.specs.Marks.{mark_by, spent_in, spent_of, Spent}
+use Rattle.cfi_loader.specs.Mark.{mark_by, spent_in, spent_of, Spent}
 
 -- ---- one line
 

@@ -17,7 +17,7 @@ use Rattle.cfi_slips.proofs.LineLemmas.{line_else, line_here, lines_append}
 use Rattle.cfi_tables.specs.Keeping.{Keeping, let_in, let_out}
 use Rattle.cfi_tables.specs.Key.{Key}
 use Rattle.cfi_loader.specs.Ledger.{Ledger}
-use Rattle.cfi_loader.specs.Marks.{mark_of}
+use Rattle.cfi_loader.specs.Mark.{mark_of}
 use Rattle.cfi_loader.specs.Results.{RefusesBy, fault_line, loaded_line, told_lines}
 use Rattle.cfi_loader.specs.Told.{HasTold, KeepsAfter}
 use Rattle.cfi_loader.specs.declared.fault.LoadFault.{LoadFault}

@@ -19,7 +19,7 @@ use Rattle.cfi_valid.specs.Journal.{JournalState}
 use Rattle.cfi_ledger.specs.Policies.{IsEntryOf}
 use Rattle.cfi_loader.specs.Ledger.{TellsOf}
 use Rattle.cfi_loader.specs.Epochs.{HavePoliciesOf, policy_put}
-use Rattle.cfi_loader.specs.Marks.{mark_of, is_made, made_marks, Spent, spent_of, spent_in, AreMade, AreRefused}
+use Rattle.cfi_loader.specs.Mark.{mark_of, is_made, made_marks, Spent, spent_of, spent_in, AreMade, AreRefused}
 use Rattle.cfi_loader.specs.Told.{GoesOnBy}
 use Rattle.cfi_ledger.proofs.EntryLemmas.{entries_stay}
 use Rattle.cfi_loader.proofs.EpochLemmas.{epochs_more, epochs_same}

@@ -17,7 +17,7 @@ use Rattle.cfi_word.specs.declared.limits.TheConstants.{MAX_EPOCH}
 use Rattle.cfi_word.specs.declared.lists.Image.{Image}
 use Rattle.cfi_ledger.specs.declared.books.Books.{Books}
 use Rattle.cfi_loader.specs.Ledger.{Ledger}
-use Rattle.cfi_loader.specs.Marks.{mark_by}
+use Rattle.cfi_loader.specs.Mark.{mark_by}
 use Rattle.cfi_ledger.specs.Journal.{asked_by}
 use Rattle.cfi_loader.specs.Results.{refused_refresh}
 use Rattle.cfi_loader.specs.Told.{MayAskFor}

@@ -10,7 +10,7 @@ use Rattle.cfi_tables.specs.Views.{idle_tables}
 use Rattle.cfi_valid.specs.Course.{Course, IsCourse}
 use Rattle.cfi_valid.specs.Script.{Call, script_calls, made_by_script}
 use Rattle.cfi_loader.specs.Epochs.{HavePoliciesOf}
-use Rattle.cfi_loader.specs.Marks.{AreMade, AreRefused}
+use Rattle.cfi_loader.specs.Mark.{AreMade, AreRefused}
 use Rattle.cfi_ledger.specs.Plans.{CanStart}
 use Rattle.cfi_loader.specs.Plans.{AreTablesOf}
 use Rattle.cfi_ledger.specs.Entries.{HaveEntries}

@@ -1,9 +1,9 @@
-pub mod Marks
+pub mod Mark
 pub mod Epochs
 pub mod Plans
 pub mod Ledger
 pub mod Told
-pub mod Starting
+pub mod Start
 pub mod Results
 pub mod Passes
 pub mod Fitting

@@ -5,10 +5,10 @@ use Rattle.cfi_aux.specs.declared.modules.Module.{Module}
 use Rattle.cfi_plan.specs.declared.journal.JournalLine.{JournalLine}
 use Rattle.cfi_plan.specs.declared.journal.JournalLine.TheVariants as lines
 use Rattle.cfi_plan.specs.declared.journal.Who.{Who}
-use Rattle.cfi_series.specs.declared.fault.JoinFault.{JoinFault}
-use Rattle.cfi_series.specs.declared.fault.JoinFault.TheVariants as joins
-use Rattle.cfi_series.specs.Numbers.{place_numbers, verify_numbers}
-use Rattle.cfi_series.specs.Order.{IsJoinFault}
+use Rattle.cfi_modules.specs.declared.fault.JoinFault.{JoinFault}
+use Rattle.cfi_modules.specs.declared.fault.JoinFault.TheVariants as joins
+use Rattle.cfi_modules.specs.Numbers.{place_numbers, verify_numbers}
+use Rattle.cfi_modules.specs.Order.{IsJoinFault}
 use Rattle.cfi_policy.specs.Book.{KeepsNumbers}
 use Rattle.cfi_tables.specs.Keeping.{last_of}
 use Rattle.cfi_tables.specs.Key.{Key}

@@ -14,7 +14,7 @@ use Rattle.cfi_valid.specs.Script.{Call}
 use Rattle.cfi_word.specs.declared.lists.Image.{Image}
 use Rattle.cfi_ledger.specs.Calls.{calls_after}
 use Rattle.cfi_loader.specs.Ledger.{Ledger}
-use Rattle.cfi_loader.specs.Marks.{mark_of}
+use Rattle.cfi_loader.specs.Mark.{mark_of}
 
 -- whoever asks may: the script for the call that is due, a guest of the plan for a load
 abbrev pub MayAskFor : Ledger → Who → Call → Type 0

@@ -1,15 +1,15 @@
 //! The live loader: the value under the lock that guests and a script share.
 //!
-//! Stands on `cfi_tables`, `cfi_slips`, `cfi_series`, `cfi_valid` and what these stand on. Proved: a plan is started
-//! exactly as its opening state says, or refused by its first fault; the type of a loader keeps that the journal is legal
-//! line by line, that the tables' history and refusals are what the journal tells, with marks that name who asked, that
-//! each entry's image is that of the modules which its policy finds loaded, and that the script's lines are those of its
-//! calls before the one that is due (`specs/Ledger.antt`); each load and each refresh adds the one line that its answer
-//! tells (`specs/Told.antt`, `specs/Results.antt`), and a refusal leaves tables, code and modules as they were; the image
-//! that a load puts in force keeps the class numbers of the one before; a line is told in a guest's name by its slip
-//! alone, which says these lines in order; a load that fits is made, or no version or no epoch is left; an answer to an
-//! open brings the data that the guest lacks.
-//! Only tested: nothing. Open: that memory suffices; what a load costs.
+//! Stands on `cfi_tables`, `cfi_slips`, `cfi_modules`, `cfi_valid` and what these stand on. Proved: a plan is started
+//! exactly as its opening state says, or refused by its first fault; the type of a loader keeps that the journal is
+//! legal line by line, that the tables' history and refusals are what the journal tells, with marks that name who
+//! asked, that each entry's image is that of the modules which its policy finds loaded, and that the script's lines are
+//! those of its calls before the one that is due (`specs/Ledger.antt`); each load and each refresh adds the one line
+//! that its answer tells (`specs/Told.antt`, `specs/Results.antt`), and a refusal leaves tables, code and modules as
+//! they were; the image that a load puts in force keeps the class numbers of the one before; a line is told in a
+//! guest's name by its slip alone, which says these lines in order; a load that fits is made, or no version or no epoch
+//! is left; an answer to an open brings the data that the guest lacks. Only tested: nothing. Open: that memory
+//! suffices; what a load costs.
 #![tactic(auto)]
 
 mod fault;

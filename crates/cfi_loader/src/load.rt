@@ -15,7 +15,7 @@ ghost use Rattle.cfi_loader.specs.Told.{MayAskFor};
 ghost use Rattle.cfi_loader.specs.inner.Books.{BooksAgree, ledger_of};
 ghost use Rattle.cfi_ledger.specs.Journal.{HasLine, HasRoomFor};
 ghost use Rattle.cfi_valid.specs.declared.limits.TheConstants.{MAX_LOADED};
-ghost use Rattle.cfi_ledger.specs.Findings.{AreFindings};
+ghost use Rattle.cfi_ledger.specs.Finding.{AreFindings};
 ghost use Rattle.cfi_ledger.specs.Loads.{IsAbsent};
 ghost use Rattle.cfi_ledger.specs.Opens.{IsFirstGlobal};
 ghost use Rattle.cfi_ledger.specs.Plans.{CanStart};

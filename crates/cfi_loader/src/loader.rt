@@ -28,8 +28,8 @@ impl LoaderName for Brand {
     ghost modules = { [] };
 }
 
-/// The keeper of the tables, with the plan and its modules, those that are loaded, the journal, the place in the script,
-/// and the stubs of the guests' slips.
+/// The keeper of the tables, with the plan and its modules, those that are loaded, the journal, the place in the
+/// script, and the stubs of the guests' slips.
 ///
 /// Whoever gets it from a lock knows of it what its name says and what its type keeps: that the journal is legal, that
 /// the tables are as the journal tells, that the script's lines are those of its calls before the one that is due, and

@@ -3,7 +3,7 @@
 ghost use Rattle.std.specs.Prelude.{◌≡◌, ◌<◌};
 ghost use Rattle.cfi_word.specs.declared.limits.TheConstants.{MAX_MODULES};
 ghost use Rattle.cfi_valid.specs.Script.{Load};
-ghost use Rattle.cfi_loader.specs.Marks.{IsAsker, mark_by};
+ghost use Rattle.cfi_loader.specs.Mark.{IsAsker, mark_by};
 
 use cfi_plan::Who;
 

@@ -1,7 +1,7 @@
 //! What a loader tells.
 
 ghost use Rattle.std.specs.Prelude.{◌≡◌, ℕ, Some, IfSome, IfNone, map, option_map, slice_get};
-ghost use Rattle.cfi_series.specs.Fills.{fills_of};
+ghost use Rattle.cfi_modules.specs.Fills.{fills_of};
 ghost use Rattle.cfi_valid.specs.Guests.{GuestBegins};
 ghost use Rattle.cfi_valid.specs.Loaded.{placed_modules, module_line_of};
 ghost use Rattle.cfi_valid.specs.Script.{made_by_script, script_calls};
@@ -12,7 +12,7 @@ use crate::loader::{Loader, LoaderName};
 use cfi_aux::Module;
 use cfi_ledger::{Books, Due, entry_at};
 use cfi_plan::{Entry, ModuleLine, Plan};
-use cfi_series::loaded_have_entries;
+use cfi_modules::loaded_have_entries;
 use cfi_tables::Seen;
 use cfi_unit::Fill;
 use cfi_values::Items;

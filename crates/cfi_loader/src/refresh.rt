@@ -60,8 +60,8 @@ fn refresh<N: TableName>(
 }
 
 impl<N: LoaderName> Loader<N> {
-    /// Makes a new epoch with the policy in force, which each guest's QUIET word has admitted, and answers it. Each call
-    /// adds one line to the journal. It takes no memory.
+    /// Makes a new epoch with the policy in force, which each guest's QUIET word has admitted, and answers it. Each
+    /// call adds one line to the journal. It takes no memory.
     ///
     /// The script asks, whose next call is this one. `EpochsSpent` comes where the epoch is `MAX_EPOCH`, then
     /// `VersionsSpent` where a guest has published an epoch that is too far behind; neither stores anything.

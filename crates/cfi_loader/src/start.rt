@@ -3,7 +3,7 @@
 ghost use Rattle.std.specs.Prelude.{IfOk, IfErr};
 ghost use Rattle.cfi_ledger.specs.Opening.{IsStartFault};
 ghost use Rattle.cfi_ledger.specs.Plans.{CanStart};
-ghost use Rattle.cfi_loader.specs.Starting.{IsStarted};
+ghost use Rattle.cfi_loader.specs.Start.{IsStarted};
 
 use cfi_aux::Module;
 use cfi_ledger::{Books, StartFault};
@@ -23,7 +23,7 @@ pub struct Start {
 }
 
 impl Model for Start {
-    ghost use Rattle.cfi_loader.specs.Starting.{Started};
+    ghost use Rattle.cfi_loader.specs.Start.{Started};
     ghost use Rattle.cfi_loader.specs.inner.Opening.{started_of, IsReadyStart};
 
     ghost Value = { Started };

@@ -5,7 +5,7 @@ ghost use Rattle.cfi_loader.specs.inner.Loads.{load_fault_of, load_fault_by, upd
 
 use crate::fault::LoadFault;
 use cfi_plan::JournalLine;
-use cfi_series::JoinFault;
+use cfi_modules::JoinFault;
 use cfi_tables::UpdateFault;
 
 /// The fault of joining as one of loading.

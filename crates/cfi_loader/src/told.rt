@@ -1,7 +1,7 @@
 //! What the journal is told of a load that puts nothing in force.
 
 ghost use Rattle.std.specs.Prelude.{◌≡◌, true};
-ghost use Rattle.cfi_ledger.specs.Findings.{AreFindings};
+ghost use Rattle.cfi_ledger.specs.Finding.{AreFindings};
 ghost use Rattle.cfi_ledger.specs.Journal.{HasLine, HasRoomFor, asked_by};
 ghost use Rattle.cfi_ledger.specs.Loads.{IsAbsent, IsListed, IsSpent, IsUnprepared};
 ghost use Rattle.cfi_loader.specs.Told.{MayAskFor};
@@ -16,7 +16,7 @@ use crate::loaded::Loaded;
 use crate::telling::{load_fault_by, load_fault_of, update_line};
 use cfi_ledger::{Books, Candidate, join_line};
 use cfi_plan::{JournalLine, Who};
-use cfi_series::JoinFault;
+use cfi_modules::JoinFault;
 use cfi_tables::UpdateFault;
 
 /// The answer where the module stands at this place in load order.

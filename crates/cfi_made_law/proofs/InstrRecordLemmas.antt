@@ -9,7 +9,7 @@ use Rattle.cfi_type_table.specs.Node.{Node}
 use Rattle.cfi_type_table.specs.Spelling.{AreTypes, spelling as types_spelling}
 use Rattle.cfi_aux.specs.Extent.{byte_end}
 use Rattle.cfi_aux.specs.Format.{is_whole, is_length, has_count}
-use Rattle.cfi_aux.specs.Module.{AreSpelled}
+use Rattle.cfi_aux.specs.Modules.{AreSpelled}
 use Rattle.cfi_aux.specs.Records.{IsFunction, IsBranch, AreRecords}
 use Rattle.cfi_aux.specs.declared.format.TheConstants.{SWITCH}
 use Rattle.cfi_aux.specs.Version.{version_for}

@@ -17,7 +17,7 @@ use Rattle.cfi_word.specs.declared.limits.TheConstants.{MAX_WORDS, MAX_DATA, MAX
 use Rattle.cfi_type_table.specs.Node.{Node, make_node, node_of}
 use Rattle.cfi_type_table.specs.Kind.{is_callable_kind, is_callable}
 use Rattle.cfi_aux.specs.Format.{is_whole, has_count}
-use Rattle.cfi_aux.specs.Module.{AreSpelled}
+use Rattle.cfi_aux.specs.Modules.{AreSpelled}
 use Rattle.cfi_aux.specs.Records.{IsFunction, IsBranch, AreRecords}
 use Rattle.cfi_aux.specs.Sound.{IsSoundModule}
 use Rattle.cfi_aux.specs.declared.format.TheConstants.{SWITCH}
@@ -33,7 +33,7 @@ use Rattle.cfi_link.specs.declared.joined.OwnReloc.{OwnReloc}
 use Rattle.cfi_link.specs.Joined.{Joined, nothing, start_of, shifted, value_at, symbol_at, reloc_at, own_reloc_at, node_at, function_at, branch_at, with_module, joined_of}
 use Rattle.cfi_link.specs.Chosen.{chosen_in, loses, is_local_symbol, settled_symbol, settled, in_order, numbers_of, reaches_of}
 use Rattle.cfi_link.specs.Applied.{is_kept, renumbered, kept_in, by_area}
-use Rattle.cfi_link.specs.Faults.{sizes_of, passed_by}
+use Rattle.cfi_link.specs.Fault.{sizes_of, passed_by}
 use Rattle.cfi_link.specs.Linked.{AreModules, Linked}
 use Rattle.cfi_link.proofs.JoinedLemmas.{with_module-lengths, fold-below}
 use Rattle.cfi_link.proofs.LimitLemmas.{few}

@@ -16,7 +16,7 @@ use Rattle.cfi_aux.specs.declared.records.Records.{Records}
 use Rattle.cfi_aux.specs.Records.{padding, name_bytes, flag_of, function_bytes, kind_number, word_count, branch_bytes, records_bytes, spelling_in, IsFunctionIn, IsBranchIn, AreRecordsIn}
 use Rattle.cfi_aux.specs.declared.version.RecordVersion.{RecordVersion}
 use Rattle.cfi_aux.specs.Version.{version_word}
-use Rattle.cfi_aux.specs.Module.{AreSpelled}
+use Rattle.cfi_aux.specs.Modules.{AreSpelled}
 use Rattle.cfi_aux.proofs.Functions.{short_name}
 use Rattle.cfi_aux.proofs.Branches.{few_words}
 use Rattle.cfi_aux.proofs.SizeLemmas.{branch-size}

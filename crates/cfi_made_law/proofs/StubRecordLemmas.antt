@@ -16,7 +16,7 @@ use Rattle.cfi_type_table.specs.Node.{Node, make_node}
 use Rattle.cfi_type_table.specs.Kind.{is_callable_kind, is_callable}
 use Rattle.cfi_type_table.specs.Spelling.{spelling as types_spelling}
 use Rattle.cfi_aux.specs.Format.{is_name_length, has_count, import_words}
-use Rattle.cfi_aux.specs.Module.{AreSpelled}
+use Rattle.cfi_aux.specs.Modules.{AreSpelled}
 use Rattle.cfi_aux.specs.Placed.{is_global_binding}
 use Rattle.cfi_aux.specs.Records.{IsName, IsFunction, IsBranch, AreRecordsIn, spelling_in}
 use Rattle.cfi_aux.specs.Sound.{IsSoundModule}

@@ -6,7 +6,7 @@ ghost use Rattle.elf_read.specs.Fault.{IsObject};
 ghost use Rattle.elf_read.specs.declared.object.Object.{Object};
 ghost use Rattle.elf_write.specs.Limits.{IsWithinLimits};
 ghost use Rattle.elf_write.specs.Whole.{IsWhole};
-ghost use Rattle.cfi_aux.specs.Module.{IsModuleOf};
+ghost use Rattle.cfi_aux.specs.Modules.{IsModuleOf};
 ghost use Rattle.cfi_aux.specs.Sound.{IsSoundModule};
 ghost use Rattle.cfi_aux.specs.declared.modules.Module.{Module};
 ghost use Rattle.cfi_import.specs.Stubbed.{IsStubbed, stubs_pass};

@@ -1,6 +1,6 @@
--- The window of a check, and what is in force in it (MCFI, Niu and Tan, PLDI 2014: a check loads the IDs of its branch and
--- of its target, and tries again where an update came between them).
--- Loads of a guest are numbered from 0; an address is in bytes.
+-- The window of a check, and what is in force in it (MCFI, Niu and Tan, PLDI 2014: a check loads the IDs of its branch
+-- and of its target, and tries again where an update came between them). Loads of a guest are numbered from 0; an
+-- address is in bytes.
 use Rattle.std.specs.Prelude.{◌≡◌, ℕ, true, List, [], ◌∷◌, Some, ⊤}
 use Rattle.cfi_unit.specs.declared.fill.Fill.{Fill}
 use Rattle.cfi_unit.specs.declared.unit.Unit.{Unit as CodeUnit}
@@ -58,7 +58,8 @@ pub record HasRunInForce (h : History) (code : List ℕ) (t : Tables) (start : R
   pub runs : RunInForce h code t (ends_in start [] came) start.base state
   pub shows : Shows h code repeats state (run_of start (takes_in came))
 
--- so has each that is opened at a start, where what comes to it fits, it is asked for, and its loads are of their moments
+-- so has each that is opened at a start, where what comes to it fits, it is asked for, and its loads are of their
+-- moments
 abbrev pub ChecksAskInForce : Type 0
 ChecksAskInForce =
     (t : Tables) → IsTables t → (h : History) (code : List ℕ) → IsHistory h code → IsOfTables t h code →

@@ -16,8 +16,9 @@ pub fn tries_hold_policies()
     ensures { TriesHoldPolicies }
 {}
 
-/// A guest that was opened at a start runs unit by unit, each check under the policy of an epoch that is in force in the
-/// check's window: from the moment of the load of its slot's word to that of the load of its target's, in its last try.
+/// A guest that was opened at a start runs unit by unit, each check under the policy of an epoch that is in force in
+/// the check's window: from the moment of the load of its slot's word to that of the load of its target's, in its last
+/// try.
 pub fn checks_ask_in_force()
     ensures { ChecksAskInForce }
 {}

@@ -7,7 +7,7 @@ ghost use Rattle.cfi_place.specs.Placed.{IsRoom, IsFault, placed_by};
 
 use crate::defined::check_defined;
 use crate::fault::PlaceFault;
-use crate::relocate::relocate;
+use crate::relocated::relocate;
 use crate::room::Room;
 use crate::sizes::check_sizes;
 use elf_read::Object;

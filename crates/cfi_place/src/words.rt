@@ -20,8 +20,8 @@ pub fn words_of(alloc: Global, bytes: &[u8]) -> Result<Vec<u32>, AllocError>
     Ok(words)
 }
 
-/// The words of a module's text, of which `source` are the bytes before its relocations and `text` those after them; its
-/// checks name the slots from `slot` on.
+/// The words of a module's text, of which `source` are the bytes before its relocations and `text` those after them;
+/// its checks name the slots from `slot` on.
 pub fn placed_words(
     alloc: Global,
     source: &[u8],

@@ -12,7 +12,7 @@ use Rattle.cfi_graph.specs.Direct.{DirectEdge, Allowed}
 use Rattle.cfi_graph.proofs.EndLemmas.{has_ends}
 use Rattle.cfi_policy.specs.declared.group.Group.{Group}
 use Rattle.cfi_policy.specs.inner.ByClass.{IsClassGroup}
-use Rattle.cfi_policy.specs.Groups.{IsBranch, GoAlike, IsGroup}
+use Rattle.cfi_policy.specs.Group.{IsBranch, GoAlike, IsGroup}
 
 module _ (ms : List Placed) (apart : AreApart ms) (tary bary : List ℕ)
     (are : AreNumbers (DirectEdge ms) SLOTS (MAX_CODE_WORDS + 1) tary bary) where

@@ -15,7 +15,7 @@ use Rattle.cfi_word.specs.declared.ids.TheConstants.{FIELD_MAX}
 use Rattle.cfi_aux.specs.declared.placed.Placed.{Placed}
 use Rattle.cfi_flow.proofs.Members.{member_first, member_of_one}
 use Rattle.cfi_graph.specs.Shaped.{slot_of, slots_of, IsShaped, IsBefore, AreApart}
-use Rattle.cfi_policy.specs.Groups.{IsBranch}
+use Rattle.cfi_policy.specs.Group.{IsBranch}
 use Rattle.cfi_policy.specs.inner.Idle.{IsIdleAmong, AddsIdle, AreIdle}
 
 -- ---- slots of shaped modules are those of a table

@@ -9,7 +9,7 @@ use Rattle.cfi_graph.specs.Direct.{DirectEdge, Allowed}
 use Rattle.cfi_graph.specs.Reading.{HaveGraph}
 use Rattle.cfi_graph.proofs.EndLemmas.{has_ends}
 use Rattle.cfi_policy.specs.declared.group.Group.{Group}
-use Rattle.cfi_policy.specs.Groups.{IsBranch, GoAlike, IsGroup, GroupPrecedes, AreGroups}
+use Rattle.cfi_policy.specs.Group.{IsBranch, GoAlike, IsGroup, GroupPrecedes, AreGroups}
 use Rattle.cfi_policy.proofs.SpansLemmas.{joined_alike}
 
 -- ---- two lists in one strict order that have the same members are one

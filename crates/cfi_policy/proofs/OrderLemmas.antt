@@ -15,7 +15,7 @@ use Rattle.cfi_graph.specs.Shaped.{IsShaped, AreApart}
 use Rattle.cfi_graph.specs.Direct.{DirectEdge, Allowed}
 use Rattle.cfi_policy.specs.declared.group.Group.{Group}
 use Rattle.cfi_policy.specs.inner.ByClass.{AreClassGroups}
-use Rattle.cfi_policy.specs.Groups.{IsBranch, GoAlike, IsGroupOf, IsGroup, GroupPrecedes, AreGroups}
+use Rattle.cfi_policy.specs.Group.{IsBranch, GoAlike, IsGroupOf, IsGroup, GroupPrecedes, AreGroups}
 use Rattle.cfi_policy.specs.inner.Idle.{AreIdle}
 use Rattle.cfi_policy.proofs.GroupLemmas.{allowed_used, used_low, used_class, class_used, member_number, number_member, class_targets, class_group}
 use Rattle.cfi_policy.proofs.IdleLemmas.{branch_low}

@@ -1,6 +1,6 @@
 pub mod Book
 pub mod Code
-pub mod Groups
+pub mod Group
 pub mod Image
 pub mod Spans
 pub mod inner

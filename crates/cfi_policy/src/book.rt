@@ -72,7 +72,8 @@ fn image_by(alloc: Global, labels: &Labels, code: Numbers) -> Result<Image, Allo
 }
 
 impl Book {
-    /// The image of the modules, with its classes numbered from 1 in the order of their least slots, and with this code.
+    /// The image of the modules, with its classes numbered from 1 in the order of their least slots, and with this
+    /// code.
     ///
     /// The modules and the layout are as `image_of` takes them; the code has the layout's number of words.
     pub fn of(

@@ -2,7 +2,7 @@
 
 ghost use Rattle.std.specs.Prelude.{IfOk};
 ghost use Rattle.cfi_graph.specs.Reading.{HaveGraph};
-ghost use Rattle.cfi_policy.specs.Groups.{AreGroups};
+ghost use Rattle.cfi_policy.specs.Group.{AreGroups};
 
 use crate::by_class::class_groups;
 use crate::idle::idle_branches;

@@ -7,7 +7,7 @@ ghost use Rattle.cfi_aux.specs.declared.placed.Placed.{Placed};
 ghost use Rattle.cfi_graph.specs.Direct.{DirectEdge, Allowed};
 ghost use Rattle.cfi_graph.specs.Reading.{HaveGraph};
 ghost use Rattle.cfi_policy.specs.declared.group.Group.{Group};
-ghost use Rattle.cfi_policy.specs.Groups.{AreGroups};
+ghost use Rattle.cfi_policy.specs.Group.{AreGroups};
 ghost use Rattle.cfi_policy.specs.Image.{HaveImage};
 ghost use Rattle.cfi_word.specs.declared.lists.Edge.{Edge};
 ghost use Rattle.cfi_word.specs.Chain.{Chain};

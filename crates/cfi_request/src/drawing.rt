@@ -33,8 +33,8 @@ fn drawn(seed: Option<u64>, count: Option<u32>) -> Option<Command>
 
 /// The command that runs as many modules as the second word says, drawn of the seed that the first one says.
 ///
-/// A seed is a number below 2 ^ 64, in decimal. `None` where a word is no such number, or has a zero ahead, or there are
-/// fewer than 2 modules or more than 32.
+/// A seed is a number below 2 ^ 64, in decimal. `None` where a word is no such number, or has a zero ahead, or there
+/// are fewer than 2 modules or more than 32.
 pub fn drawing(seed: &str, count: &str) -> Option<Command>
     requires operands { All IsOperand (seed.now ∷ count.now ∷ []) }
     ensures reading { IsReading (codes "gen" ∷ seed.now ∷ count.now ∷ []) result }

@@ -1,10 +1,10 @@
 //! What is asked of the program, and what it delivers: its words, the files that it reads, and where its output goes.
 //!
-//! Stands on `clap`, `cfi_io`, `cfi_plan`, `cfi_gen`, `cfi_text`, `cfi_values` and `cfi_word`; `cfi_top` calls it. Proved:
-//! words are split, by `clap`, exactly where there is one, none is empty and none begins with `-`, and are read as the one
-//! command that they are, or as none; files are read in order up to the first that is not read, with its cause; an output
-//! is delivered whole or in part, and the status says which. Only tested, by the cases of `cfi_cases`: that ample memory
-//! is enough. Open: nothing.
+//! Stands on `clap`, `cfi_io`, `cfi_plan`, `cfi_gen`, `cfi_text`, `cfi_values` and `cfi_word`; `cfi_top` calls it.
+//! Proved: words are split, by `clap`, exactly where there is one, none is empty and none begins with `-`, and are read
+//! as the one command that they are, or as none; files are read in order up to the first that is not read, with its
+//! cause; an output is delivered whole or in part, and the status says which. Only tested, by the cases of `cfi_cases`:
+//! that ample memory is enough. Open: nothing.
 #![tactic(auto)]
 
 mod command;

@@ -12,9 +12,9 @@ use Rattle.cfi_model.specs.Tables.{IsTables}
 use Rattle.cfi_model.specs.Words.{Tables, entry_at}
 use Rattle.cfi_model.proofs.InForceLemmas.{history_is, force_within}
 use Rattle.cfi_model.proofs.RunningLemmas.{running_shows}
-use Rattle.cfi_part.specs.Part.{IsEndOf, IsWithin, part_of}
-use Rattle.cfi_part.proofs.EndLemmas.{IsShownAs, shown_as, steps_of}
-use Rattle.cfi_part.proofs.StepsLemmas.{replay_unspent}
+use Rattle.cfi_guest_part.specs.Part.{IsEndOf, IsWithin, part_of}
+use Rattle.cfi_guest_part.proofs.EndLemmas.{IsShownAs, shown_as, steps_of}
+use Rattle.cfi_guest_part.proofs.StepsLemmas.{replay_unspent}
 use Rattle.cfi_plan.specs.declared.journal.Entry.{Entry}
 use Rattle.cfi_plan.specs.declared.plan.Plan.{Plan}
 use Rattle.cfi_policy.specs.Code.{IsCodeOf}

@@ -6,7 +6,7 @@ use Rattle.cfi_ledger.specs.Roster.{Roster, loaded_of, origin_of}
 use Rattle.cfi_model.specs.World.{World}
 use Rattle.cfi_plan.specs.declared.journal.ModuleLine.{ModuleLine}
 use Rattle.cfi_plan.specs.declared.plan.Plan.{Plan}
-use Rattle.cfi_series.specs.Entry.{IsGlobal, HasNoneOf}
+use Rattle.cfi_modules.specs.Entry.{IsGlobal, HasNoneOf}
 use Rattle.cfi_sim.specs.Agrees.{NumbersAreApart}
 use Rattle.cfi_sim.specs.Events.{IsFound}
 use Rattle.cfi_sim.specs.declared.found.Found.{Found}

@@ -15,7 +15,7 @@ use Rattle.cfi_sim.specs.Stage.{after_event}
 use Rattle.cfi_sim.specs.inner.Standing.{Whole, AnswersOpen, HasDone, IsThere, IsUnderWay}
 use Rattle.cfi_sim.proofs.journal.HappensLemmas.{holds_after, policy_is, turned_beside}
 use Rattle.cfi_sim.proofs.journal.SeatsLemmas.{set_one}
-use Rattle.cfi_series.specs.Series.{CanBeTaken}
+use Rattle.cfi_modules.specs.Series.{CanBeTaken}
 use Rattle.cfi_world.specs.Seats.{Seat, seat_of, seat_after, is_asking}
 use Rattle.cfi_world.specs.Turns.{Turns, nothing, seated, guest_turn, turn_of}
 use Rattle.cfi_world.specs.declared.event.Event.TheVariants as events

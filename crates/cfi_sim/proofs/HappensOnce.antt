@@ -12,16 +12,16 @@ use Rattle.cfi_plan.specs.declared.journal.JournalLine.{JournalLine}
 use Rattle.cfi_plan.specs.declared.journal.JournalLine.TheVariants as lines
 use Rattle.cfi_plan.specs.declared.plan.Plan.{Plan}
 use Rattle.cfi_policy.specs.Image.{IsImage}
-use Rattle.cfi_series.specs.declared.fault.JoinFault.{JoinFault}
-use Rattle.cfi_series.specs.declared.fault.JoinFault.TheVariants.{Memory}
-use Rattle.cfi_series.specs.declared.numbers.FaultNumbers.{FaultNumbers}
-use Rattle.cfi_series.specs.declared.numbers.FaultNumbers.TheVariants as numbers
-use Rattle.cfi_series.specs.Loaded.{AreLoaded}
-use Rattle.cfi_series.specs.Numbers.{numbers_of}
-use Rattle.cfi_series.specs.Order.{IsJoinFault}
-use Rattle.cfi_series.specs.Image.{IsOrderedImage}
-use Rattle.cfi_series.proofs.GraphLemmas.{are_loaded}
-use Rattle.cfi_series.proofs.OrderLemmas.{joins_or_refused, one_fault}
+use Rattle.cfi_modules.specs.declared.fault.JoinFault.{JoinFault}
+use Rattle.cfi_modules.specs.declared.fault.JoinFault.TheVariants.{Memory}
+use Rattle.cfi_modules.specs.declared.numbers.FaultNumbers.{FaultNumbers}
+use Rattle.cfi_modules.specs.declared.numbers.FaultNumbers.TheVariants as numbers
+use Rattle.cfi_modules.specs.Loaded.{AreLoaded}
+use Rattle.cfi_modules.specs.Numbers.{numbers_of}
+use Rattle.cfi_modules.specs.Order.{IsJoinFault}
+use Rattle.cfi_modules.specs.Image.{IsOrderedImage}
+use Rattle.cfi_modules.proofs.GraphLemmas.{are_loaded}
+use Rattle.cfi_modules.proofs.OrderLemmas.{joins_or_refused, one_fault}
 use Rattle.cfi_sim.specs.declared.aim.Aim.{Aim}
 use Rattle.cfi_sim.specs.declared.aim.Aim.TheVariants.{Loading, Refreshing}
 use Rattle.cfi_sim.specs.Events.{TellsLoad, Begins, IsBeginning, IsBegunLoad, IsLoadEvent, IsNoted, IsUpdateEvent}

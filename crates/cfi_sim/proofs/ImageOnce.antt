@@ -7,8 +7,8 @@ use Rattle.cfi_aux.specs.declared.placed.Placed.{Placed}
 use Rattle.cfi_class.specs.Labels.{IsUsed, AreLabels, AreOrderedBySlot}
 use Rattle.cfi_graph.specs.Direct.{DirectEdge}
 use Rattle.cfi_policy.specs.Image.{IsImage}
-use Rattle.cfi_series.specs.Loaded.{AreLoaded}
-use Rattle.cfi_series.proofs.ImageLemmas.{slots_within}
+use Rattle.cfi_modules.specs.Loaded.{AreLoaded}
+use Rattle.cfi_modules.proofs.ImageLemmas.{slots_within}
 use Rattle.cfi_sim.proofs.journal.ComingLemmas.{among}
 use Rattle.cfi_valid.proofs.CodeLemmas.{code_once}
 use Rattle.cfi_valid.proofs.PolicyLemmas.{equal_joins, joins_equal, edge_within}

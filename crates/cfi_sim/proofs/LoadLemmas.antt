@@ -9,17 +9,17 @@ use Rattle.cfi_policy.specs.Image.{IsImage}
 use Rattle.cfi_plan.specs.declared.journal.JournalLine.{JournalLine}
 use Rattle.cfi_plan.specs.declared.journal.JournalLine.TheVariants as lines
 use Rattle.cfi_plan.specs.declared.journal.ModuleLine.{ModuleLine}
-use Rattle.cfi_series.proofs.OrderLemmas.{joins_or_refused}
-use Rattle.cfi_series.proofs.SeriesLemmas.{item_at}
+use Rattle.cfi_modules.proofs.OrderLemmas.{joins_or_refused}
+use Rattle.cfi_modules.proofs.SeriesLemmas.{item_at}
 use Rattle.std.proofs.lemmas.Option.{slice_get-get_or}
-use Rattle.cfi_series.specs.declared.fault.JoinFault.{JoinFault}
-use Rattle.cfi_series.specs.declared.fault.JoinFault.TheVariants.{Memory}
-use Rattle.cfi_series.specs.declared.numbers.FaultNumbers.{FaultNumbers}
-use Rattle.cfi_series.specs.declared.numbers.FaultNumbers.TheVariants as numbers
-use Rattle.cfi_series.specs.Numbers.{numbers_of}
-use Rattle.cfi_series.specs.Image.{IsOrderedImage}
-use Rattle.cfi_series.specs.Order.{IsJoinFault, Joins}
-use Rattle.cfi_series.specs.Series.{JoinsTo, Series}
+use Rattle.cfi_modules.specs.declared.fault.JoinFault.{JoinFault}
+use Rattle.cfi_modules.specs.declared.fault.JoinFault.TheVariants.{Memory}
+use Rattle.cfi_modules.specs.declared.numbers.FaultNumbers.{FaultNumbers}
+use Rattle.cfi_modules.specs.declared.numbers.FaultNumbers.TheVariants as numbers
+use Rattle.cfi_modules.specs.Numbers.{numbers_of}
+use Rattle.cfi_modules.specs.Image.{IsOrderedImage}
+use Rattle.cfi_modules.specs.Order.{IsJoinFault, Joins}
+use Rattle.cfi_modules.specs.Series.{JoinsTo, Series}
 use Rattle.cfi_sim.specs.declared.aim.Aim.TheVariants.{Loading}
 use Rattle.cfi_sim.specs.Events.{TellsLoad, IsLoadEvent}
 use Rattle.cfi_sim.specs.Reach.{OfLoad}

@@ -9,7 +9,7 @@ use Rattle.cfi_graph.specs.Code.{entry_of}
 use Rattle.cfi_model.specs.Raw.{Raw}
 use Rattle.cfi_model.specs.World.{World}
 use Rattle.cfi_plan.specs.declared.plan.Plan.{Plan}
-use Rattle.cfi_series.specs.Entry.{IsGlobal, IsFirstOf, HasNoneOf}
+use Rattle.cfi_modules.specs.Entry.{IsGlobal, IsFirstOf, HasNoneOf}
 use Rattle.cfi_sim.specs.Agrees.{NumbersAreApart}
 use Rattle.cfi_sim.specs.Events.{IsFound, IsAnswered, GuestTurns, IsGuestEvent, IsUpdateEvent, reply_by}
 use Rattle.cfi_sim.specs.declared.found.Found.{Found}

@@ -17,11 +17,11 @@ use Rattle.cfi_model.specs.World.{World, opened_world}
 use Rattle.cfi_plan.specs.Plan.{IsPlan}
 use Rattle.cfi_plan.specs.declared.plan.Plan.{Plan}
 use Rattle.cfi_policy.specs.Image.{IsImage}
-use Rattle.cfi_series.specs.Fills.{fills_of}
-use Rattle.cfi_series.specs.Image.{IsOrderedImage}
-use Rattle.cfi_series.specs.Series.{CanBeTaken}
-use Rattle.cfi_series.proofs.OrderLemmas.{left, last}
-use Rattle.cfi_series.proofs.SeriesLemmas.{item_at}
+use Rattle.cfi_modules.specs.Fills.{fills_of}
+use Rattle.cfi_modules.specs.Image.{IsOrderedImage}
+use Rattle.cfi_modules.specs.Series.{CanBeTaken}
+use Rattle.cfi_modules.proofs.OrderLemmas.{left, last}
+use Rattle.cfi_modules.proofs.SeriesLemmas.{item_at}
 use Rattle.cfi_sim.specs.declared.limits.TheConstants.{MAX_UPDATES}
 use Rattle.cfi_sim.specs.Stage.{Stage}
 use Rattle.cfi_sim.specs.Valid.{IsStart}

@@ -9,15 +9,15 @@ use Rattle.cfi_graph.specs.Direct.{DirectEdge}
 use Rattle.cfi_model.specs.Phases.{phase_of}
 use Rattle.cfi_model.specs.Raw.{Raw, raw_opened}
 use Rattle.cfi_model.specs.World.{World, opened_world}
-use Rattle.cfi_part.specs.Part.{part_of}
+use Rattle.cfi_guest_part.specs.Part.{part_of}
 use Rattle.cfi_plan.specs.Plan.{IsPlan}
 use Rattle.cfi_plan.specs.declared.plan.Plan.{Plan}
 use Rattle.cfi_policy.specs.Image.{IsImage}
 use Rattle.cfi_report.specs.declared.report.GuestPart.{GuestPart}
-use Rattle.cfi_series.specs.Image.{IsOrderedImage}
+use Rattle.cfi_modules.specs.Image.{IsOrderedImage}
 use Rattle.cfi_sim.specs.declared.limits.TheConstants.{MAX_UPDATES}
 use Rattle.cfi_sim.specs.declared.report.SimReport.{SimReport}
-use Rattle.cfi_sim.specs.Faults.{IsFirstBad}
+use Rattle.cfi_sim.specs.Fault.{IsFirstBad}
 use Rattle.cfi_sim.specs.Once.{SimulationsAreOne, NoneBesideABadLine}
 use Rattle.cfi_sim.specs.Schedule.{LinesMake}
 use Rattle.cfi_sim.specs.Stage.{Stage}

@@ -5,8 +5,8 @@ use Rattle.std.proofs.lemmas.List.{append-nil}
 use Rattle.cfi_aux.specs.declared.modules.Module.{Module}
 use Rattle.cfi_plan.specs.Plan.{IsPlan}
 use Rattle.cfi_plan.specs.declared.plan.Plan.{Plan}
-use Rattle.cfi_series.specs.Series.{CanBeTaken}
-use Rattle.cfi_sim.specs.Faults.{IsBadLine, IsSimFault}
+use Rattle.cfi_modules.specs.Series.{CanBeTaken}
+use Rattle.cfi_sim.specs.Fault.{IsBadLine, IsSimFault}
 use Rattle.cfi_sim.specs.Schedule.{LinesMake, ScheduleMakes}
 use Rattle.cfi_sim.specs.Told.{IsToldSim}
 use Rattle.cfi_sim.specs.Valid.{IsValidSim}

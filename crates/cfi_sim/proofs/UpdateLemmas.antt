@@ -8,8 +8,8 @@ use Rattle.cfi_model.specs.Phases.{phase_of}
 use Rattle.cfi_model.specs.World.{World}
 use Rattle.cfi_plan.specs.declared.journal.JournalLine.TheVariants as lines
 use Rattle.cfi_plan.specs.declared.journal.ModuleLine.{ModuleLine}
-use Rattle.cfi_series.specs.Order.{Joins}
-use Rattle.cfi_series.specs.Series.{CanRejoin, Series}
+use Rattle.cfi_modules.specs.Order.{Joins}
+use Rattle.cfi_modules.specs.Series.{CanRejoin, Series}
 use Rattle.cfi_sim.specs.declared.aim.Aim.{Aim}
 use Rattle.cfi_sim.specs.declared.limits.TheConstants.{MAX_EVENTS}
 use Rattle.cfi_sim.specs.declared.pending.Pending.{Pending}

@@ -15,7 +15,7 @@ use Rattle.cfi_model.specs.World.{World, quiet_of, point_of}
 use Rattle.cfi_plan.specs.declared.plan.Plan.{Plan}
 use Rattle.cfi_policy.specs.Image.{IsImage}
 use Rattle.cfi_ledger.specs.Policies.{IsPolicyOf}
-use Rattle.cfi_series.specs.Series.{IsSeries}
+use Rattle.cfi_modules.specs.Series.{IsSeries}
 use Rattle.cfi_sim.specs.declared.limits.TheConstants.{MAX_UPDATES}
 use Rattle.cfi_sim.specs.Reach.{WorldTells}
 use Rattle.cfi_sim.specs.declared.aim.Aim.{Aim}

@@ -11,7 +11,7 @@ pub mod Reach
 pub mod Agrees
 pub mod Stands
 pub mod Told
-pub mod Faults
+pub mod Fault
 pub mod Once
 pub mod Trace
 pub mod TraceOnce

@@ -5,7 +5,7 @@ use Rattle.cfi_aux.specs.Sound.{IsSoundModule}
 use Rattle.cfi_plan.specs.declared.plan.Plan.{Plan}
 use Rattle.cfi_plan.specs.Plan.{IsPlan}
 use Rattle.cfi_sim.specs.declared.report.SimReport.{SimReport}
-use Rattle.cfi_sim.specs.Faults.{IsFirstBad}
+use Rattle.cfi_sim.specs.Fault.{IsFirstBad}
 use Rattle.cfi_sim.specs.Valid.{IsValidSim}
 
 -- a schedule makes one simulation at most

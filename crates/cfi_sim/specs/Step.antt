@@ -1,6 +1,6 @@
 -- What a trace tells of an event of a guest: a line where a unit has ended, a table word was loaded, a try begins anew,
--- the guest has stopped, or a quiescent point has loaded EPOCH or has published. A line has the guest, the number of its
--- unit, from 1, the address at which the unit begins, what it is, and behind # what it has done.
+-- the guest has stopped, or a quiescent point has loaded EPOCH or has published. A line has the guest, the number of
+-- its unit, from 1, the address at which the unit begins, what it is, and behind # what it has done.
 use Rattle.std.specs.Prelude.{ℕ, zero, suc, ◌+◌, ◌-◌, ◌/◌, ◌==◌, ◌&&◌, nat_lt, if◌then◌else◌, List, [], ◌∷◌, ◌++◌, length, slice_index, Option, Some, None, codes}
 use Rattle.cfi_model.specs.declared.act.Wait.{Wait}
 use Rattle.cfi_model.specs.declared.act.Wait.TheVariants as waits

@@ -5,7 +5,7 @@ use Rattle.cfi_aux.specs.Sound.{IsSoundModule}
 use Rattle.cfi_model.specs.Phases.{phase_of}
 use Rattle.cfi_model.specs.Raw.{Raw}
 use Rattle.cfi_model.specs.World.{World}
-use Rattle.cfi_part.specs.Part.{part_of}
+use Rattle.cfi_guest_part.specs.Part.{part_of}
 use Rattle.cfi_plan.specs.declared.plan.Plan.{Plan}
 use Rattle.cfi_plan.specs.Plan.{IsPlan}
 use Rattle.cfi_report.specs.declared.report.GuestPart.{GuestPart}

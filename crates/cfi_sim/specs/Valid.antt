@@ -6,11 +6,11 @@ use Rattle.cfi_graph.specs.Direct.{DirectEdge}
 use Rattle.cfi_model.specs.Phases.{phase_of}
 use Rattle.cfi_model.specs.Raw.{Raw, raw_opened}
 use Rattle.cfi_model.specs.World.{World, opened_world}
-use Rattle.cfi_part.specs.Part.{part_of}
+use Rattle.cfi_guest_part.specs.Part.{part_of}
 use Rattle.cfi_plan.specs.declared.plan.Plan.{Plan}
 use Rattle.cfi_policy.specs.Image.{IsImage}
 use Rattle.cfi_report.specs.declared.report.GuestPart.{GuestPart}
-use Rattle.cfi_series.specs.Image.{IsOrderedImage}
+use Rattle.cfi_modules.specs.Image.{IsOrderedImage}
 use Rattle.cfi_sim.specs.declared.limits.TheConstants.{NOT_LOADED, MAX_UPDATES}
 use Rattle.cfi_sim.specs.declared.report.SimReport.{SimReport}
 use Rattle.cfi_sim.specs.Events.{IsIdle}

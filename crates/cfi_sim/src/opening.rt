@@ -4,8 +4,8 @@ ghost use Rattle.std.specs.Prelude.{◌≡◌, ◌≤◌, All, IfOk, IfErr, leng
 ghost use Rattle.cfi_ledger.specs.Entries.{AllEnter};
 ghost use Rattle.cfi_model.specs.Data.{LiesInData};
 ghost use Rattle.cfi_plan.specs.Plan.{IsPlan};
-ghost use Rattle.cfi_series.specs.Entry.{HasAddresses};
-ghost use Rattle.cfi_series.specs.Series.{CanBeTaken};
+ghost use Rattle.cfi_modules.specs.Entry.{HasAddresses};
+ghost use Rattle.cfi_modules.specs.Series.{CanBeTaken};
 ghost use Rattle.cfi_sim.specs.inner.Opening.{AreGuestsIn, IsOpened, IsOpeningFault};
 ghost use Rattle.cfi_word.specs.declared.limits.TheConstants.{GUESTS};
 
@@ -15,7 +15,7 @@ use crate::standing::Standing;
 use cfi_aux::{Module, Placed};
 use cfi_ledger::{StartFault, entry_at, open_modules};
 use cfi_plan::Plan;
-use cfi_series::{loaded_have_entries, series_are_closed_below};
+use cfi_modules::{loaded_have_entries, series_are_closed_below};
 use cfi_unit::Fill;
 use cfi_word::Layout;
 use cfi_world::World;

@@ -3,7 +3,7 @@
 ghost use Rattle.std.specs.Prelude.{◌≡◌, [], drop, length};
 ghost use Rattle.cfi_ledger.specs.Roster.{loaded_of};
 ghost use Rattle.cfi_model.specs.Service.{reply_of};
-ghost use Rattle.cfi_series.specs.Entry.{HasAddresses};
+ghost use Rattle.cfi_modules.specs.Entry.{HasAddresses};
 ghost use Rattle.cfi_sim.specs.Agrees.{NumbersAreApart};
 ghost use Rattle.cfi_sim.specs.Events.{IsFound, found_reply};
 ghost use Rattle.cfi_sim.specs.inner.Loaded.{FindsIn};
@@ -16,7 +16,7 @@ use cfi_aux::Placed;
 use cfi_ledger::{Roster, open_answer};
 use cfi_model::{Answer, Phase};
 use cfi_plan::Plan;
-use cfi_series::{first_global, loaded_have_entries};
+use cfi_modules::{first_global, loaded_have_entries};
 use cfi_unit::Fill;
 use cfi_word::services::NO_MODULE;
 use cfi_world::World;

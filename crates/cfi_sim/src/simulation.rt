@@ -2,8 +2,8 @@
 
 ghost use Rattle.std.specs.Prelude.{◌≡◌, ◌<◌, ◌^◌, [], All, IfOk, IfErr, OnOk, length};
 ghost use Rattle.cfi_plan.specs.Plan.{IsPlan};
-ghost use Rattle.cfi_series.specs.Series.{CanBeTaken};
-ghost use Rattle.cfi_sim.specs.Faults.{IsSimFault};
+ghost use Rattle.cfi_modules.specs.Series.{CanBeTaken};
+ghost use Rattle.cfi_sim.specs.Fault.{IsSimFault};
 ghost use Rattle.cfi_sim.specs.Schedule.{PassesNoLimit, LineMakes};
 ghost use Rattle.cfi_sim.specs.Valid.{IsValidSim};
 ghost use Rattle.cfi_sim.specs.inner.Following.{FollowsTo, IsLineFault, IsScheduleFault};

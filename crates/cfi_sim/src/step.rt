@@ -233,8 +233,8 @@ fn put_event(
 
 /// Appends what a trace tells of an event of a guest: a line, or nothing.
 ///
-/// `old` is the guest before the event, `new` after it, and `world` the world after it. Where no memory is left, nothing
-/// is appended.
+/// `old` is the guest before the event, `new` after it, and `world` the world after it. Where no memory is left,
+/// nothing is appended.
 pub fn put_step(
     out: &mut Vec<u8>,
     world: &World,

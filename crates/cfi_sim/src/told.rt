@@ -4,7 +4,7 @@ ghost use Rattle.std.specs.Prelude.{◌≡◌, ◌≤◌, IfOk, length};
 ghost use Rattle.cfi_sim.specs.inner.Parts.{ArePartsOf};
 ghost use Rattle.cfi_word.specs.declared.limits.TheConstants.{GUESTS};
 
-use cfi_part::part_of;
+use cfi_guest_part::part_of;
 use cfi_plan::Plan;
 use cfi_report::GuestPart;
 use rv_guest::Guest;

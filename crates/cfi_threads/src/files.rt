@@ -5,7 +5,7 @@ ghost use Rattle.cfi_aux.specs.Sound.{IsSoundModule};
 ghost use Rattle.cfi_engine.specs.Guests.{HasCode};
 ghost use Rattle.cfi_ledger.specs.Plans.{CanStart};
 ghost use Rattle.cfi_plan.specs.Plan.{IsPlan};
-ghost use Rattle.cfi_series.specs.Series.{CanBeTaken};
+ghost use Rattle.cfi_modules.specs.Series.{CanBeTaken};
 
 use cfi_aux::Module;
 use cfi_commands::{assembled, instrumented, read_module};

@@ -48,8 +48,8 @@ impl Gate for Meeting {
     fn line(&self, _call: u32) {}
 }
 
-/// Holds the script's first call until guest 0 has come to its quiet service, and that guest's exit until the script has
-/// come to its second call.
+/// Holds the script's first call until guest 0 has come to its quiet service, and that guest's exit until the script
+/// has come to its second call.
 #[derive(Drop)]
 pub struct Weaving {
     quiet: Mark,
@@ -98,8 +98,8 @@ impl Gate for Weaving {
     }
 }
 
-/// Holds guest 0 in its open until the script has made its first call, and the script's second call until that guest has
-/// come to its exit.
+/// Holds guest 0 in its open until the script has made its first call, and the script's second call until that guest
+/// has come to its exit.
 #[derive(Drop)]
 pub struct Crossing {
     second: Mark,
@@ -147,8 +147,8 @@ impl Gate for Crossing {
     }
 }
 
-/// Holds the script's first call until guest 0 has come to its quiet service, that guest there until the script has made
-/// its first so many calls, and the next call until the guest has come to its exit.
+/// Holds the script's first call until guest 0 has come to its quiet service, that guest there until the script has
+/// made its first so many calls, and the next call until the guest has come to its exit.
 #[derive(Drop)]
 pub struct Parking {
     calls: u32,

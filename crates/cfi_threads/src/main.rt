@@ -1,16 +1,16 @@
 //! Tests of what runs on threads: a keeper, passes and guests beside each other, over one table, and whole plans.
 //!
-//! Stands on `cfi_engine`, `cfi_commands`, `cfi_runner` and `cfi_tables`; nothing stands on it. They are a program, so that
-//! they are proved once and run as both compilers build them; `stdout` has what it must print, and `data/` the plans that
-//! are run, their sources and their reports. Proved: that each keeps what the calls take for granted. Tested: two guests
-//! load and fetch beside 100 updates, and find several epochs; beside quiescent points of two guests, under three versions,
-//! some updates are admitted and some are not; a guest loads while others come, are told of updates, and go; a guest
-//! fetches beside an update that adds code, and one without quiescent points hinders an update; guests run beside
-//! refreshes, one of them repeats a try, and each pause comes; two guests of a plan are in their services at once, its
-//! script goes on beside a guest, the script and a guest load one module in both orders; under three versions six
-//! refreshes are made while a guest is held in a service, and it checks on then; a guest runs to its end while the
-//! loader's lock is held, and so does one that has opened as often as it may and asks for each service that needs no
-//! loader. Open: nothing.
+//! Stands on `cfi_engine`, `cfi_commands`, `cfi_runner` and `cfi_tables`; nothing stands on it. They are a program, so
+//! that they are proved once and run as both compilers build them; `stdout` has what it must print, and `data/` the
+//! plans that are run, their sources and their reports. Proved: that each keeps what the calls take for granted.
+//! Tested: two guests load and fetch beside 100 updates, and find several epochs; beside quiescent points of two
+//! guests, under three versions, some updates are admitted and some are not; a guest loads while others come, are told
+//! of updates, and go; a guest fetches beside an update that adds code, and one without quiescent points hinders an
+//! update; guests run beside refreshes, one of them repeats a try, and each pause comes; two guests of a plan are in
+//! their services at once, its script goes on beside a guest, the script and a guest load one module in both orders;
+//! under three versions six refreshes are made while a guest is held in a service, and it checks on then; a guest runs
+//! to its end while the loader's lock is held, and so does one that has opened as often as it may and asks for each
+//! service that needs no loader. Open: nothing.
 #![tactic(auto)]
 
 mod files;

@@ -3,7 +3,7 @@
 ghost use Rattle.std.specs.Prelude.{◌≡◌, None};
 ghost use Rattle.cfi_engine.specs.Guests.{HasCode};
 ghost use Rattle.cfi_ledger.specs.Plans.{CanStart};
-ghost use Rattle.cfi_loader.specs.Starting.{IsStarted};
+ghost use Rattle.cfi_loader.specs.Start.{IsStarted};
 
 use crate::files::planned;
 use crate::gates::{Crossing, Holding, Meeting, Parking, Weaving};
@@ -96,8 +96,8 @@ pub fn a_load_before_a_guests<R: Threads + Wait + Sync>(
     has_report(rt, alloc, &plan, modules, &gate, report) && gate.is_kept()
 }
 
-/// A guest is held in its first service beside twice as many refreshes as there are versions, 3, and checks a call and a
-/// return then; the run has this report.
+/// A guest is held in its first service beside twice as many refreshes as there are versions, 3, and checks a call and
+/// a return then; the run has this report.
 pub fn a_guest_parked_beside_refreshes<R: Threads + Wait + Sync>(
     rt: &R,
     alloc: Global,
@@ -239,8 +239,8 @@ pub fn a_guest_beside_a_held_lock<R: Threads + Wait + Sync>(
     does_beside_a_held_lock(rt, alloc, texts, Task::Call)
 }
 
-/// A guest that has opened as often as it may is served to its end while another thread holds the loader's lock: a put, a
-/// service that is not there, a masked access, and one open more.
+/// A guest that has opened as often as it may is served to its end while another thread holds the loader's lock: a put,
+/// a service that is not there, a masked access, and one open more.
 pub fn services_beside_a_held_lock<R: Threads + Wait + Sync>(
     rt: &R,
     alloc: Global,

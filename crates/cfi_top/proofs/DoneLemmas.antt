@@ -1,7 +1,7 @@
 -- What status 0 says: a command was done.
 use Rattle.std.proofs.Common.{◌≡◌, ℕ, Bool, true, false, List, [], ◌∷◌, Option, Some, None, IfSome, inl, inr, arith, refl, sym, ap, subst, ◌∙◌}
 use Rattle.std.specs.Prelude.{◌==◌, if◌then◌else◌}
-use Rattle.cfi_drive.specs.Concluded.{Conclusion}
+use Rattle.cfi_guest_run.specs.Concluded.{Conclusion}
 use Rattle.cfi_request.specs.declared.command.Command.{Command}
 use Rattle.cfi_request.specs.declared.command.Command.TheVariants as commands
 use Rattle.cfi_top.specs.declared.answer.Answer.{Answer}

@@ -1,7 +1,7 @@
 -- Which files stay, and when valid input gives 0 or 6.
 use Rattle.std.proofs.Common.{◌≡◌, ℕ, ◌≤◌, ◌⊎◌, List, map, Option, Some, None, inl, inr, arith, sym, subst, IfSome, ◌∙◌}
 use Rattle.std.specs.Prelude.{◌≢◌}
-use Rattle.cfi_drive.specs.Concluded.{Conclusion}
+use Rattle.cfi_guest_run.specs.Concluded.{Conclusion}
 use Rattle.cfi_io.specs.Count.{Rose}
 use Rattle.cfi_io.specs.Files.{Files}
 use Rattle.cfi_io.specs.Told.{WhereKeptTold}

@@ -5,9 +5,9 @@ use Rattle.cfi_commands.specs.declared.fault.CommandFault.{CommandFault}
 use Rattle.cfi_commands.specs.declared.fault.CommandFault.TheVariants.{File, Together, Memory}
 use Rattle.cfi_commands.specs.Files.{IsFilesFault}
 use Rattle.cfi_gen.specs.Plan.{plan_text}
-use Rattle.cfi_drive.specs.Concluded.{Conclusion}
+use Rattle.cfi_guest_run.specs.Concluded.{Conclusion}
 use Rattle.cfi_gen.specs.Generated.{AreGenerated, IsGenerateFault}
-use Rattle.cfi_gen.specs.Measured.{IsMeasure}
+use Rattle.cfi_gen.specs.Measure.{IsMeasure}
 use Rattle.cfi_request.specs.declared.command.Command.TheVariants as commands
 use Rattle.cfi_plan.specs.declared.plan.Plan.{Plan}
 use Rattle.cfi_plan.specs.declared.plan.PlanModule.{PlanModule}

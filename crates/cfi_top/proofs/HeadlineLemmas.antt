@@ -15,7 +15,7 @@ use Rattle.cfi_model_law.specs.Window.{HasRunInForce}
 use Rattle.cfi_model_law.proofs.InForceLemmas.{in_force_run}
 use Rattle.cfi_model_law.proofs.MomentLemmas.{confined}
 use Rattle.cfi_model_law.proofs.RunLemmas.{step_ready}
-use Rattle.cfi_part.specs.Ran.{IsHistoryOf, IsRunOf}
+use Rattle.cfi_guest_part.specs.Ran.{IsHistoryOf, IsRunOf}
 use Rattle.cfi_report.specs.declared.report.GuestPart.{GuestPart}
 use Rattle.cfi_valid.specs.Course.{Course}
 use Rattle.cfi_valid.specs.FromLaw.{HasPolicies}

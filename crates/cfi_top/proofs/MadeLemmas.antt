@@ -2,7 +2,7 @@
 use Rattle.std.proofs.Common.{◌≡◌, ℕ, List, [], ◌∷◌, Option, sym, subst}
 use Rattle.std.specs.Prelude.{IsSomeAnd}
 use Rattle.std.specs.Io.KnownBytes.{Appends}
-use Rattle.cfi_drive.specs.Concluded.{Conclusion}
+use Rattle.cfi_guest_run.specs.Concluded.{Conclusion}
 use Rattle.cfi_io.specs.Files.{Puts}
 use Rattle.cfi_io.specs.Told.{WhereKeptTold}
 use Rattle.cfi_request.specs.declared.command.Command.TheVariants as commands

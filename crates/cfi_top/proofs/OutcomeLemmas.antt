@@ -7,7 +7,7 @@ use Rattle.cfi_top.specs.declared.answer.Answer.TheVariants as answers
 use Rattle.cfi_request.specs.declared.reading.Unread.{Unread}
 use Rattle.cfi_request.specs.Command.{inputs_of, more_of, saved_name}
 use Rattle.cfi_request.specs.declared.output.Output.{Output}
-use Rattle.cfi_drive.specs.Concluded.{Conclusion}
+use Rattle.cfi_guest_run.specs.Concluded.{Conclusion}
 use Rattle.cfi_request.specs.declared.output.TheConstants.{MEMORY}
 use Rattle.cfi_top.specs.Answer.{output_of, run_in, kept_at}
 use Rattle.cfi_request.specs.Outside.{IsLater, IsStarved, IsDelivered, KeepsLast}

@@ -1,5 +1,5 @@
 -- The headline, promise by promise.
-use Rattle.cfi_drive.specs.Concluded.{Conclusion}
+use Rattle.cfi_guest_run.specs.Concluded.{Conclusion}
 use Rattle.cfi_top.specs.Promises.{GuestsAskInForce, GuestsKeepPolicies, GuestsEnterUnits, GuestsStoreInside, course_in}
 use Rattle.cfi_top.proofs.HeadlineLemmas.{run_in_force, run_keeps, run_policies}
 

@@ -15,7 +15,7 @@ use Rattle.cfi_plan.specs.Plan.{IsPlan, IsNamed}
 use Rattle.cfi_plan.specs.Reading.{plan_in}
 use Rattle.cfi_commands.specs.declared.refusal.Refusal.{Refusal}
 use Rattle.cfi_commands.specs.declared.refusal.Refusal.TheVariants as refusals
-use Rattle.cfi_drive.specs.Concluded.{Conclusion, HasReadableNames, IsConcluded}
+use Rattle.cfi_guest_run.specs.Concluded.{Conclusion, HasReadableNames, IsConcluded}
 use Rattle.cfi_ledger.specs.Opening.{IsOpenFault}
 use Rattle.cfi_request.specs.declared.command.Command.TheVariants as commands
 use Rattle.cfi_request.specs.Plans.{begins_as_plan, files_of}

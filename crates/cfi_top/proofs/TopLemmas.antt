@@ -1,6 +1,6 @@
 -- What status 1 to 5 say.
 use Rattle.std.proofs.Common.{◌≡◌, ◌≤◌, ℕ, ◌⊎◌, List, Option, inl, inr, arith, sym, ◌∙◌}
-use Rattle.cfi_drive.specs.Concluded.{Conclusion}
+use Rattle.cfi_guest_run.specs.Concluded.{Conclusion}
 use Rattle.cfi_io.specs.Count.{Rose}
 use Rattle.cfi_top.specs.declared.answer.Answer.{Answer}
 use Rattle.cfi_top.specs.declared.answer.Answer.TheVariants as answers

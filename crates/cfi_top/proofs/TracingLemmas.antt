@@ -20,7 +20,7 @@ use Rattle.cfi_request.proofs.OutsideLemmas.{delivered_since}
 use Rattle.cfi_ledger.specs.declared.fault.OpenFault.{OpenFault}
 use Rattle.cfi_sim.specs.declared.fault.SimFault.{SimFault}
 use Rattle.cfi_sim.specs.declared.fault.SimFault.TheVariants.{Open, BadEvent, Memory}
-use Rattle.cfi_sim.specs.Faults.{IsSimFault}
+use Rattle.cfi_sim.specs.Fault.{IsSimFault}
 use Rattle.cfi_top.specs.declared.answer.Answer.{Answer}
 use Rattle.cfi_top.specs.declared.answer.Answer.TheVariants as answers
 use Rattle.cfi_top.specs.inner.Simulating.{IsSimRefused}

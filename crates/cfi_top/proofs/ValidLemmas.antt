@@ -13,10 +13,10 @@ use Rattle.cfi_request.specs.declared.command.Command.TheVariants.{Run}
 use Rattle.cfi_request.specs.Reading.{IsShort}
 use Rattle.cfi_request.proofs.CommandLemmas.{all_of_one}
 use Rattle.cfi_plan.specs.Bare.{bare_plan}
-use Rattle.cfi_series.specs.declared.fault.JoinFault.{JoinFault}
-use Rattle.cfi_series.specs.declared.fault.JoinFault.TheVariants as joins
-use Rattle.cfi_series.specs.Order.{Joins, IsJoinFault}
-use Rattle.cfi_series.proofs.OrderLemmas.{joins_or_refused}
+use Rattle.cfi_modules.specs.declared.fault.JoinFault.{JoinFault}
+use Rattle.cfi_modules.specs.declared.fault.JoinFault.TheVariants as joins
+use Rattle.cfi_modules.specs.Order.{Joins, IsJoinFault}
+use Rattle.cfi_modules.proofs.OrderLemmas.{joins_or_refused}
 use Rattle.cfi_valid.specs.Example.{hello_bytes, hello_module}
 use Rattle.cfi_valid.proofs.example.ExampleLemmas.{hello_placed, is_placed, verified}
 use Rattle.cfi_word.specs.declared.limits.TheConstants.{MAX_CODE_WORDS}

@@ -8,7 +8,7 @@ use Rattle.cfi_request.specs.declared.output.TheConstants.{DONE, USAGE, REFUSED}
 use Rattle.cfi_request.specs.Output.{usage_line, unread_output}
 use Rattle.cfi_commands.specs.declared.refusal.Refusal.{Refusal}
 use Rattle.cfi_commands.specs.Refusal.{refusal_text}
-use Rattle.cfi_drive.specs.Concluded.{Conclusion}
+use Rattle.cfi_guest_run.specs.Concluded.{Conclusion}
 
 -- the file, the layer that refuses it, and the fault
 abbrev pub refused_line : (name : List ℕ) → Refusal → List ℕ

@@ -6,9 +6,9 @@ use Rattle.cfi_commands.specs.Files.{IsFilesFault}
 use Rattle.cfi_commands.specs.Modules.{AreModuleFiles}
 use Rattle.cfi_gen.specs.Plan.{plan_text}
 use Rattle.cfi_gen.specs.Source.{file_name}
-use Rattle.cfi_drive.specs.Concluded.{Conclusion, IsConcluded}
+use Rattle.cfi_guest_run.specs.Concluded.{Conclusion, IsConcluded}
 use Rattle.cfi_gen.specs.Generated.{AreGenerated, IsFirstRefusedDrawn}
-use Rattle.cfi_gen.specs.Measured.{IsMeasure}
+use Rattle.cfi_gen.specs.Measure.{IsMeasure}
 use Rattle.cfi_request.specs.Plans.{files_of}
 use Rattle.cfi_plan.specs.declared.plan.Plan.{Plan}
 use Rattle.cfi_plan.specs.Reading.{plan_in}

@@ -1,6 +1,6 @@
--- What is promised of each guest: it does, unit by unit, what the policy machine does; every indirect jump goes where the
--- policy in force allows; it halts only where that policy forbids the edge; it never enters a unit's middle, and never
--- stores outside its own data.
+-- What is promised of each guest: it does, unit by unit, what the policy machine does; every indirect jump goes where
+-- the policy in force allows; it halts only where that policy forbids the edge; it never enters a unit's middle, and
+-- never stores outside its own data.
 use Rattle.std.specs.Prelude.{◌≡◌, ℕ, true, List, [], ◌∷◌, length, None, Some}
 use Rattle.cfi_unit.specs.declared.fill.Fill.{Fill}
 use Rattle.cfi_unit.specs.declared.log.Stop.TheVariants.{Halt}
@@ -14,7 +14,7 @@ use Rattle.cfi_model.specs.Shows.{End, IsStep, Shows, ends_along}
 use Rattle.cfi_model.specs.State.{State}
 use Rattle.cfi_model.specs.Words.{Tables}
 use Rattle.cfi_model_law.specs.Moments.{IsConfined}
-use Rattle.cfi_part.specs.Ran.{IsHistoryOf, IsRunOf}
+use Rattle.cfi_guest_part.specs.Ran.{IsHistoryOf, IsRunOf}
 use Rattle.cfi_report.specs.declared.report.GuestPart.{GuestPart}
 use Rattle.cfi_valid.specs.Course.{Course}
 use Rattle.cfi_valid.specs.FromLaw.{HasPolicies}
@@ -52,8 +52,8 @@ pub record KeepsHeadline (h : History) (code : List ℕ) (loaded : List LoadedMo
   pub shows : Shows h code repeats state (run_of start takes)
   pub confined : IsConfined h code start takes
 
--- it holds of each guest that is opened at a start, whatever words of the history and answers come to it, where the image
--- of each epoch is that of the modules which its policy finds loaded
+-- it holds of each guest that is opened at a start, whatever words of the history and answers come to it, where the
+-- image of each epoch is that of the modules which its policy finds loaded
 abbrev pub GuestsKeepTheHeadline : Type 0
 GuestsKeepTheHeadline =
     (h : History) (code : List ℕ) (loaded : List LoadedModule) → IsHistory h code → HasPolicies (length code) loaded h →

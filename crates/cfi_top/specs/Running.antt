@@ -9,7 +9,7 @@ use Rattle.cfi_plan.specs.Reading.{plan_in}
 use Rattle.cfi_commands.specs.declared.refusal.Refusal.{Refusal}
 use Rattle.cfi_commands.specs.declared.refusal.Refusal.TheVariants.{Bare, Plan}
 use Rattle.cfi_commands.specs.Modules.{AreModuleFiles}
-use Rattle.cfi_drive.specs.Concluded.{Conclusion, IsConcluded}
+use Rattle.cfi_guest_run.specs.Concluded.{Conclusion, IsConcluded}
 use Rattle.cfi_ledger.specs.Opening.{IsOpenFault}
 use Rattle.cfi_request.specs.declared.command.Command.{Command}
 use Rattle.cfi_request.specs.declared.command.Command.TheVariants as commands

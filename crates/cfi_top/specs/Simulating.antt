@@ -9,7 +9,7 @@ use Rattle.cfi_commands.specs.Modules.{AreModuleFiles}
 use Rattle.cfi_request.specs.Plans.{files_of}
 use Rattle.cfi_sim.specs.declared.fault.SimFault.TheVariants.{Open, BadEvent}
 use Rattle.cfi_sim.specs.declared.report.SimReport.{SimReport}
-use Rattle.cfi_sim.specs.Faults.{IsSimFault}
+use Rattle.cfi_sim.specs.Fault.{IsSimFault}
 use Rattle.cfi_sim.specs.Text.{sim_text}
 use Rattle.cfi_sim.specs.Valid.{IsValidSim}
 use Rattle.cfi_top.specs.Opening.{IsNoPlan, RefusesModules, RefusesOpening}

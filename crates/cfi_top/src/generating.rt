@@ -7,7 +7,7 @@ ghost use Rattle.cfi_gen.specs.Plan.{plan_text};
 ghost use Rattle.cfi_gen.specs.Source.{file_name};
 ghost use Rattle.cfi_gen.specs.declared.shape.TheConstants.{MAX_COUNT, MIN_COUNT};
 ghost use Rattle.cfi_gen.specs.Generated.{AreGenerated};
-ghost use Rattle.cfi_gen.specs.Measured.{IsMeasure};
+ghost use Rattle.cfi_gen.specs.Measure.{IsMeasure};
 ghost use Rattle.cfi_request.specs.declared.command.Command.TheVariants as commands;
 ghost use Rattle.cfi_plan.specs.Plan.{IsPlan};
 ghost use Rattle.cfi_plan.specs.Reading.{plan_in};

@@ -174,15 +174,14 @@ fn run_words<F: Shelf, S: Sink, G: Gate, R: Threads + Wait + Sync>(
 ///
 /// `asm IN OUT` assembles a source and saves the object. `list IN` prints the listing of an object's text. `instrument
 /// IN OUT` instruments a module and saves it. `stub IN OUT` gives a module stubs for the functions that it calls and
-/// that may come later, and saves it. `link OUT IN..` links 1 to 64 modules and saves what they make. `verify
-/// PLAN` verifies the modules of a plan and prints a line for each; `graph PLAN` does so and prints the groups of their
-/// policy. `sim PLAN SCHEDULE` makes the events of a schedule, one by one, and prints what they come to. `run FILE` runs a
-/// plan, or a bare file, whose guests run on threads of their own beside the script, and prints the report. `gen SEED
-/// COUNT` runs 2 to 32 modules that are drawn of a seed, and prints the summary; it reads no file. It waits for a run
-/// alone: all else is done by `serve`.
-/// Status 0 where the command's bytes were written whole, 1 where the words are no command, 2 where the shelf failed,
-/// 3 where a file is not there or too long, 4 where the sink failed, or the shelf where a file was saved, 5 where a
-/// file was refused, 6 where no memory was left.
+/// that may come later, and saves it. `link OUT IN..` links 1 to 64 modules and saves what they make. `verify PLAN`
+/// verifies the modules of a plan and prints a line for each; `graph PLAN` does so and prints the groups of their
+/// policy. `sim PLAN SCHEDULE` makes the events of a schedule, one by one, and prints what they come to. `run FILE`
+/// runs a plan, or a bare file, whose guests run on threads of their own beside the script, and prints the report. `gen
+/// SEED COUNT` runs 2 to 32 modules that are drawn of a seed, and prints the summary; it reads no file. It waits for a
+/// run alone: all else is done by `serve`. Status 0 where the command's bytes were written whole, 1 where the words are
+/// no command, 2 where the shelf failed, 3 where a file is not there or too long, 4 where the sink failed, or the shelf
+/// where a file was saved, 5 where a file was refused, 6 where no memory was left.
 pub fn top<F: Shelf, S: Sink, G: Gate, R: Threads + Wait + Sync>(
     rt: &R,
     alloc: Global,

@@ -1,7 +1,7 @@
 //! Running a plan, or a bare file.
 
 ghost use Rattle.std.specs.Prelude.{◌≡◌, ◌≤◌, ◌∷◌, [], true, false, length, All, IfOk};
-ghost use Rattle.cfi_drive.specs.Concluded.{IsConcluded};
+ghost use Rattle.cfi_guest_run.specs.Concluded.{IsConcluded};
 ghost use Rattle.cfi_commands.specs.Modules.{IsShortFile};
 ghost use Rattle.cfi_request.specs.declared.command.Command.TheVariants as commands;
 ghost use Rattle.cfi_request.specs.Plans.{begins_as_plan, named_files, run_files};

@@ -6,7 +6,7 @@ use Rattle.cfi_aux.specs.declared.placed.Placed.{Placed}
 use Rattle.cfi_aux.specs.declared.placed.PlacedFunction.{PlacedFunction}
 use Rattle.cfi_graph.specs.Code.{entry_of}
 use Rattle.cfi_plan.specs.declared.plan.Plan.{Plan}
-use Rattle.cfi_series.specs.Entry.{IsGlobalOf, IsFirstOf, IsEntryIn}
+use Rattle.cfi_modules.specs.Entry.{IsGlobalOf, IsFirstOf, IsEntryIn}
 use Rattle.cfi_valid.specs.Bare.{is_bare_plan}
 use Rattle.cfi_valid.specs.Guests.{EntersAt, GuestBegins}
 use Rattle.cfi_valid.specs.Loaded.{LoadedModule, placed_modules, loaded_by}

@@ -8,8 +8,8 @@ use Rattle.cfi_plan.specs.declared.journal.Entry.{Entry}
 use Rattle.cfi_plan.specs.declared.journal.JournalLine.{JournalLine}
 use Rattle.cfi_plan.specs.declared.journal.JournalLine.TheVariants.{LoadOk, LoadAgain, LoadFull, LoadPlace, LoadVerify, LoadVersions, LoadEpochs, RefreshOk, RefreshVersions, RefreshEpochs}
 use Rattle.cfi_plan.specs.declared.plan.Plan.{Plan}
-use Rattle.cfi_series.specs.Order.{Joins}
-use Rattle.cfi_series.proofs.OrderLemmas.{joins_once}
+use Rattle.cfi_modules.specs.Order.{Joins}
+use Rattle.cfi_modules.proofs.OrderLemmas.{joins_once}
 use Rattle.cfi_valid.specs.Journal.{JournalState, IsClean, with_loaded, IsOpeningState, starts_from, modules_at, EntryLeads, LineLeads, EntriesLead, IsJournal}
 use Rattle.cfi_valid.specs.Loaded.{LoadedModule, placed_modules}
 use Rattle.cfi_valid.proofs.OrderLemmas.{order_once}

@@ -1,7 +1,7 @@
 -- A replay stays one where the log gets longer.
 use Rattle.std.proofs.Common.{◌≡◌, ℕ, zero, suc, Bool, true, false, List, ◌++◌, length, Option, Some, None, refl, sym, ap, subst, ◌∙◌}
 use Rattle.std.specs.List.{slice_get}
-use Rattle.cfi_series.proofs.JoinedLemmas.{there_left}
+use Rattle.cfi_modules.proofs.JoinedLemmas.{there_left}
 use Rattle.cfi_unit.specs.declared.log.Log.{Log}
 use Rattle.cfi_unit.specs.declared.log.Log.TheVariants.{Pick, Open, Cause}
 use Rattle.cfi_unit.specs.declared.unit.Unit.{Unit as CodeUnit}

@@ -6,10 +6,10 @@ use Rattle.std.proofs.lemmas.List.{take_more_same}
 use Rattle.std.proofs.lemmas.Option.{slice_get-get_or}
 use Rattle.cfi_aux.specs.declared.modules.Module.{Module}
 use Rattle.cfi_aux.specs.declared.placed.Placed.{Placed}
-use Rattle.cfi_series.specs.Order.{names_of, IsPlacedBehind, Joins, AreInOrder}
-use Rattle.cfi_series.specs.Room.{room_after}
-use Rattle.cfi_series.proofs.OrderLemmas.{joins_once}
-use Rattle.cfi_series.proofs.PlacedLemmas.{placed_once}
+use Rattle.cfi_modules.specs.Order.{names_of, IsPlacedBehind, Joins, AreInOrder}
+use Rattle.cfi_modules.specs.Room.{room_after}
+use Rattle.cfi_modules.proofs.OrderLemmas.{joins_once}
+use Rattle.cfi_modules.proofs.PlacedLemmas.{placed_once}
 use Rattle.cfi_valid.specs.Modules.{ArePlaced}
 
 -- each module stands as a relation says behind those before it

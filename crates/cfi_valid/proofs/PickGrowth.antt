@@ -4,7 +4,7 @@ use Rattle.std.specs.Prelude.{count_by}
 use Rattle.std.specs.List.{slice_get, fold}
 use Rattle.std.proofs.lemmas.Bool.{eqb-true}
 use Rattle.std.proofs.lemmas.List.Sums.{sum_by-append, fold-append}
-use Rattle.cfi_series.specs.declared.numbers.FaultNumbers.TheVariants.{Place, Verify}
+use Rattle.cfi_modules.specs.declared.numbers.FaultNumbers.TheVariants.{Place, Verify}
 use Rattle.cfi_unit.specs.declared.log.Log.{Log}
 use Rattle.cfi_unit.specs.declared.log.Log.TheVariants.{Pick, Open, Cause}
 use Rattle.cfi_model.specs.Log.{last_of, is_pick_of, picks_of, picked, policy_after}

@@ -10,8 +10,8 @@ use Rattle.cfi_model.specs.History.{fixed, IsStart}
 use Rattle.cfi_model.specs.Closed.{IsClosed}
 use Rattle.cfi_model.proofs.FixedLemmas.{fixed_history}
 use Rattle.cfi_model.proofs.StartLemmas.{started}
-use Rattle.cfi_series.specs.Loaded.{AreLoaded, IsLoadedImage}
-use Rattle.cfi_series.proofs.ImageLemmas.{closed, edge_start_in}
+use Rattle.cfi_modules.specs.Loaded.{AreLoaded, IsLoadedImage}
+use Rattle.cfi_modules.proofs.ImageLemmas.{closed, edge_start_in}
 use Rattle.cfi_unit.proofs.CodeLemmas.{BeginsAt-within}
 use Rattle.cfi_unit.proofs.UnitLemmas.{size_pos}
 use Rattle.cfi_word.specs.Chain.{Chain, ChainOf}

@@ -12,9 +12,9 @@ use Rattle.cfi_plan.specs.declared.journal.Entry.{Entry}
 use Rattle.cfi_plan.specs.declared.journal.JournalLine.{JournalLine}
 use Rattle.cfi_plan.specs.declared.journal.JournalLine.TheVariants.{LoadOk, LoadAgain, LoadFull, LoadPlace, LoadVerify, LoadVersions, LoadEpochs, RefreshOk, RefreshVersions, RefreshEpochs}
 use Rattle.cfi_plan.specs.declared.plan.Plan.{Plan}
-use Rattle.cfi_series.specs.Order.{AreInOrder}
-use Rattle.cfi_series.specs.Series.{IsSeries}
-use Rattle.cfi_series.proofs.OrderLemmas.{order_more}
+use Rattle.cfi_modules.specs.Order.{AreInOrder}
+use Rattle.cfi_modules.specs.Series.{IsSeries}
+use Rattle.cfi_modules.proofs.OrderLemmas.{order_more}
 use Rattle.cfi_valid.specs.Journal.{JournalState, modules_at, IsOpeningState, LineLeads, EntriesLead, IsJournal}
 use Rattle.cfi_valid.specs.Loaded.{LoadedModule, placed_modules}
 use Rattle.cfi_word.specs.Table.{IsSize}

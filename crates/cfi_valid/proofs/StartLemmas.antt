@@ -9,9 +9,9 @@ use Rattle.cfi_aux.specs.declared.modules.Module.{Module}
 use Rattle.cfi_aux.specs.declared.placed.Placed.{Placed}
 use Rattle.cfi_plan.specs.declared.plan.Plan.{Plan}
 use Rattle.cfi_plan.specs.declared.plan.PlanModule.{PlanModule}
-use Rattle.cfi_series.specs.Order.{Joins, AreInOrder, IsJoinFault}
-use Rattle.cfi_series.specs.declared.fault.JoinFault.{JoinFault}
-use Rattle.cfi_series.proofs.OrderLemmas.{order_more}
+use Rattle.cfi_modules.specs.Order.{Joins, AreInOrder, IsJoinFault}
+use Rattle.cfi_modules.specs.declared.fault.JoinFault.{JoinFault}
+use Rattle.cfi_modules.proofs.OrderLemmas.{order_more}
 use Rattle.cfi_valid.specs.Journal.{IsOpeningState, starts_from, modules_at}
 use Rattle.cfi_valid.specs.Loaded.{LoadedModule, placed_modules}
 use Rattle.cfi_valid.specs.Opening.{IsFirstUnjoined}

@@ -1,7 +1,7 @@
 -- The bare file that puts one `H` and exits with 7, and its report.
 use Rattle.std.specs.Prelude.{ℕ, List, [], ◌∷◌, codes, Some}
 use Rattle.cfi_aux.specs.declared.modules.Module.{Module}
-use Rattle.cfi_bare.specs.Module.{bare_module}
+use Rattle.cfi_bare.specs.Modules.{bare_module}
 use Rattle.cfi_plan.specs.declared.journal.ModuleLine.{ModuleLine}
 use Rattle.cfi_report.specs.declared.report.GuestPart.{GuestPart}
 use Rattle.cfi_report.specs.declared.report.Report.{Report}

@@ -5,7 +5,7 @@ use Rattle.cfi_model.specs.History.{History, IsEpoch, IsHistory}
 use Rattle.cfi_model.specs.Service.{Reply}
 use Rattle.cfi_model.specs.Shows.{End, IsReady, IsStep}
 use Rattle.cfi_model.specs.State.{State}
-use Rattle.cfi_series.specs.Loaded.{AreLoaded, IsLoadedImage}
+use Rattle.cfi_modules.specs.Loaded.{AreLoaded, IsLoadedImage}
 use Rattle.cfi_valid.specs.Loaded.{LoadedModule, placed_modules, loaded_by, live_at, fills_between}
 use Rattle.cfi_valid.specs.Replay.{given_by}
 use Rattle.cfi_valid.specs.Running.{RunsUnit}

@@ -2,7 +2,7 @@
 use Rattle.std.specs.Prelude.{◌≡◌, ℕ, ◌*◌, Bool, true, false, List}
 use Rattle.cfi_aux.specs.declared.placed.Placed.{Placed}
 use Rattle.cfi_plan.specs.declared.plan.Plan.{Plan}
-use Rattle.cfi_series.specs.Entry.{IsEntryIn}
+use Rattle.cfi_modules.specs.Entry.{IsEntryIn}
 use Rattle.cfi_valid.specs.Bare.{is_bare_plan}
 use Rattle.cfi_valid.specs.Loaded.{LoadedModule, placed_modules, loaded_by}
 use Rattle.cfi_word.specs.declared.map.TheConstants.{FIRST_BASE}

@@ -3,10 +3,10 @@
 use Rattle.std.specs.Prelude.{◌≡◌, ℕ, ◌<◌, ◌≤◌, List, length, slice_get, Some}
 use Rattle.cfi_aux.specs.declared.modules.Module.{Module}
 use Rattle.cfi_aux.specs.declared.placed.Placed.{Placed}
-use Rattle.cfi_series.specs.declared.fault.JoinFault.{JoinFault}
-use Rattle.cfi_series.specs.declared.numbers.FaultNumbers.{FaultNumbers}
-use Rattle.cfi_series.specs.Numbers.{numbers_of}
-use Rattle.cfi_series.specs.Order.{Joins, IsJoinFault}
+use Rattle.cfi_modules.specs.declared.fault.JoinFault.{JoinFault}
+use Rattle.cfi_modules.specs.declared.numbers.FaultNumbers.{FaultNumbers}
+use Rattle.cfi_modules.specs.Numbers.{numbers_of}
+use Rattle.cfi_modules.specs.Order.{Joins, IsJoinFault}
 use Rattle.cfi_valid.specs.declared.limits.TheConstants.{MAX_LOADED}
 use Rattle.cfi_valid.specs.Loaded.{LoadedModule, placed_modules, IsLoaded}
 

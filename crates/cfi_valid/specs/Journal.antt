@@ -10,8 +10,8 @@ use Rattle.cfi_plan.specs.declared.journal.Who.{Who}
 use Rattle.cfi_plan.specs.declared.journal.Who.TheVariants.{Script, Guest}
 use Rattle.cfi_plan.specs.declared.plan.Plan.{Plan}
 use Rattle.cfi_plan.specs.declared.plan.PlanModule.{PlanModule}
-use Rattle.cfi_series.specs.declared.numbers.FaultNumbers.TheVariants.{Place, Verify}
-use Rattle.cfi_series.specs.Order.{AreInOrder}
+use Rattle.cfi_modules.specs.declared.numbers.FaultNumbers.TheVariants.{Place, Verify}
+use Rattle.cfi_modules.specs.Order.{AreInOrder}
 use Rattle.cfi_valid.specs.Joining.{IsFull, HasFault, HasNoFault}
 use Rattle.cfi_valid.specs.Loaded.{LoadedModule, placed_modules, IsLoaded}
 use Rattle.cfi_word.specs.declared.limits.TheConstants.{MAX_EPOCH}

@@ -8,7 +8,7 @@ use Rattle.cfi_aux.specs.Cells.{have_cells}
 use Rattle.cfi_aux.specs.declared.records.Function.{Function}
 use Rattle.cfi_aux.specs.declared.records.Kind.{Kind}
 use Rattle.cfi_aux.specs.declared.records.Kind.TheVariants.{Call, Return}
-use Rattle.cfi_bare.specs.Module.{bare_types}
+use Rattle.cfi_bare.specs.Modules.{bare_types}
 use Rattle.cfi_bare.specs.declared.modules.TheConstants.{FUNCTION_TYPE}
 use Rattle.cfi_plan.specs.declared.journal.JournalLine.TheVariants.{LoadOk}
 use Rattle.cfi_plan.specs.declared.journal.ModuleLine.{ModuleLine}

@@ -6,8 +6,8 @@ use Rattle.cfi_plan.specs.declared.journal.JournalLine.{JournalLine}
 use Rattle.cfi_plan.specs.declared.journal.JournalLine.TheVariants.{LoadOk, LoadAgain, LoadFull, LoadPlace, LoadVerify, LoadVersions, LoadEpochs, RefreshOk, RefreshVersions, RefreshEpochs}
 use Rattle.cfi_plan.specs.declared.journal.Who.{Who}
 use Rattle.cfi_plan.specs.declared.journal.Who.TheVariants.{Script, Guest}
-use Rattle.cfi_series.specs.declared.numbers.FaultNumbers.TheVariants.{Place, Verify}
-use Rattle.cfi_series.specs.Entry.{IsGlobal, IsFirstOf, HasNoneOf}
+use Rattle.cfi_modules.specs.declared.numbers.FaultNumbers.TheVariants.{Place, Verify}
+use Rattle.cfi_modules.specs.Entry.{IsGlobal, IsFirstOf, HasNoneOf}
 use Rattle.cfi_unit.specs.declared.log.Log.{Log}
 use Rattle.cfi_unit.specs.declared.log.Log.TheVariants.{Pick, Open, Cause}
 use Rattle.cfi_model.specs.Log.{policy_after, last_policy}

@@ -8,7 +8,7 @@ use Rattle.cfi_plan.specs.declared.journal.JournalLine.{JournalLine}
 use Rattle.cfi_plan.specs.declared.journal.JournalLine.TheVariants.{LoadOk, LoadAgain, LoadFull, LoadPlace, LoadVerify, LoadVersions, LoadEpochs, RefreshOk, RefreshVersions, RefreshEpochs}
 use Rattle.cfi_plan.specs.declared.plan.Plan.{Plan}
 use Rattle.cfi_report.specs.declared.report.Report.{Report}
-use Rattle.cfi_series.specs.Order.{IsPlacedBehind, Joins}
+use Rattle.cfi_modules.specs.Order.{IsPlacedBehind, Joins}
 use Rattle.cfi_valid.specs.Journal.{starts_from, modules_at}
 use Rattle.cfi_valid.specs.Kept.{Origin}
 use Rattle.cfi_valid.specs.Loaded.{LoadedModule, placed_modules, module_line_of}

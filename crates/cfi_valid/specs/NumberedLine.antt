@@ -2,8 +2,8 @@
 use Rattle.std.specs.Prelude.{ℕ}
 use Rattle.cfi_plan.specs.declared.journal.JournalLine.{JournalLine}
 use Rattle.cfi_plan.specs.declared.journal.JournalLine.TheVariants.{LoadPlace, LoadVerify}
-use Rattle.cfi_series.specs.declared.numbers.FaultNumbers.{FaultNumbers}
-use Rattle.cfi_series.specs.declared.numbers.FaultNumbers.TheVariants.{Place, Verify}
+use Rattle.cfi_modules.specs.declared.numbers.FaultNumbers.{FaultNumbers}
+use Rattle.cfi_modules.specs.declared.numbers.FaultNumbers.TheVariants.{Place, Verify}
 
 -- the line of a module's fault
 abbrev pub numbered_line : (number : ℕ) → FaultNumbers → JournalLine

@@ -4,8 +4,8 @@ use Rattle.cfi_aux.specs.declared.modules.Module.{Module}
 use Rattle.cfi_aux.specs.declared.placed.Placed.{Placed}
 use Rattle.cfi_plan.specs.declared.plan.Plan.{Plan}
 use Rattle.cfi_plan.specs.declared.plan.PlanModule.{PlanModule}
-use Rattle.cfi_series.specs.declared.fault.JoinFault.{JoinFault}
-use Rattle.cfi_series.specs.Order.{AreInOrder, IsJoinFault}
+use Rattle.cfi_modules.specs.declared.fault.JoinFault.{JoinFault}
+use Rattle.cfi_modules.specs.Order.{AreInOrder, IsJoinFault}
 use Rattle.cfi_valid.specs.Guests.{HasEntry}
 use Rattle.cfi_valid.specs.Journal.{JournalState, IsOpeningState, starts_from, modules_at}
 

@@ -3,7 +3,7 @@
 use Rattle.std.specs.Prelude.{◌≡◌, ◌↔◌, ℕ, ◌/◌, ◌%◌, ◌<◌, List, slice_index}
 use Rattle.cfi_aux.specs.declared.placed.Placed.{Placed}
 use Rattle.cfi_graph.specs.Direct.{Allowed}
-use Rattle.cfi_series.specs.Loaded.{AreLoaded, IsLoadedImage}
+use Rattle.cfi_modules.specs.Loaded.{AreLoaded, IsLoadedImage}
 use Rattle.cfi_word.specs.declared.lists.Image.{Image}
 use Rattle.cfi_word.specs.Table.{slots_of}
 

@@ -12,7 +12,7 @@ ghost use Rattle.cfi_valid.specs.Example.{hello_module, hello_report};
 ghost use Rattle.cfi_valid.specs.FromLaw.{StepsAreUnits};
 ghost use Rattle.cfi_valid.specs.Growth.{IsLater, LoadedStays, LogStays, SettledLies, LogGrows, PicksGrow};
 ghost use Rattle.cfi_valid.specs.Journal.{JournalState, EntryLeads, EntriesLead, IsJournal};
-ghost use Rattle.cfi_series.specs.Series.{IsSeries};
+ghost use Rattle.cfi_modules.specs.Series.{IsSeries};
 ghost use Rattle.cfi_valid.specs.Loaded.{LoadedModule, placed_modules, module_line_of};
 ghost use Rattle.cfi_valid.specs.Modules.{HasModules};
 ghost use Rattle.cfi_word.specs.Table.{IsSize};

@@ -1,7 +1,7 @@
 //! What a valid report of a plan and its modules is, as definitions: its modules, the journal line by line, the script,
 //! where guests begin, the replay of the policy machine over their logs, these logs, and their steps.
 //!
-//! Stands on `cfi_series`, `cfi_policy` and what is below them for places and policies, `cfi_model` for the policy
+//! Stands on `cfi_modules`, `cfi_policy` and what is below them for places and policies, `cfi_model` for the policy
 //! machine, `cfi_plan` and `cfi_report` for what a plan and a report say, and `cfi_bare` for the module of the
 //! example. Proved, as laws: a journal leads to one state, and its lines tell of one list of modules; valid reports of
 //! one journal agree in all that a guest's log tells; what was logged stays true while the journal goes on; a replay

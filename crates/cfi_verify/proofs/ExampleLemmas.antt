@@ -11,7 +11,7 @@ use Rattle.cfi_aux.specs.declared.placed.PlacedFunction.{PlacedFunction}
 use Rattle.elf_read.specs.Lists.{Each}
 use Rattle.cfi_verify.specs.Functions.{FitsBehind, IsLastIn, EndsWell}
 use Rattle.cfi_verify.specs.Target.{LeadsWell}
-use Rattle.cfi_verify.specs.Faults.{IsVerified}
+use Rattle.cfi_verify.specs.Fault.{IsVerified}
 use Rattle.cfi_verify.specs.Example.{loop_module}
 
 -- no item of no list, and the one of a list of one

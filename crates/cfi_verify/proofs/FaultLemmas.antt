@@ -6,7 +6,7 @@ use Rattle.cfi_verify.specs.declared.fault.VerifyFault.{VerifyFault}
 use Rattle.cfi_verify.specs.declared.fault.VerifyFault.TheVariants as faults
 use Rattle.cfi_unit.specs.Spots.{InsnsBelow}
 use Rattle.cfi_verify.specs.Spots.{IsNotUnit}
-use Rattle.cfi_verify.specs.Faults.{FaultStands, fault_number, fault_place, IsFirstFault, IsFault}
+use Rattle.cfi_verify.specs.Fault.{FaultStands, fault_number, fault_place, IsFirstFault, IsFault}
 use Rattle.cfi_verify.specs.inner.Reading.{IsFirstIllegal, IsUnread}
 use Rattle.cfi_unit.proofs.StopLemmas.{one_stop}
 

@@ -13,7 +13,7 @@ use Rattle.cfi_unit.specs.Spots.{AreSpots}
 use Rattle.cfi_verify.specs.Functions.{FitsBehind, IsIdleBehind, EndsWell}
 use Rattle.cfi_verify.specs.Target.{LeadsWell}
 use Rattle.cfi_verify.specs.Branches.{NamesSlot, KindFits, EntriesFit}
-use Rattle.cfi_verify.specs.Faults.{unit_place, check_place, FaultStandsIn, FaultStands, fault_number, fault_place, IsFirstFault, Verifies, IsLaidOut, IsVerifiedAs}
+use Rattle.cfi_verify.specs.Fault.{unit_place, check_place, FaultStandsIn, FaultStands, fault_number, fault_place, IsFirstFault, Verifies, IsLaidOut, IsVerifiedAs}
 use Rattle.cfi_verify.specs.inner.Places.{IsFirstUnfit, IsFirstMisfit}
 use Rattle.cfi_verify.proofs.ListLemmas.{break_of, no_break, first_is_least}
 use Rattle.cfi_verify.proofs.SpotLemmas.{spots-rising, checks-within, checks-rising, rise_from}

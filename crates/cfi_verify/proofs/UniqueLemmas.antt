@@ -4,7 +4,7 @@ use Rattle.std.proofs.lemmas.Bool.{cases_lt}
 use Rattle.cfi_aux.specs.declared.placed.Placed.{Placed}
 use Rattle.cfi_verify.specs.declared.fault.VerifyFault.{VerifyFault}
 use Rattle.cfi_verify.specs.declared.fault.VerifyFault.TheVariants.{Empty, Illegal, NotUnit, Slot, Functions, FallsThrough, Target, Kinds, Switch, Memory}
-use Rattle.cfi_verify.specs.Faults.{fault_number, fault_place, IsFirstFault}
+use Rattle.cfi_verify.specs.Fault.{fault_number, fault_place, IsFirstFault}
 
 -- the fault of a number at a place
 abbrev fault_of : (number place : ℕ) → VerifyFault

@@ -2,6 +2,6 @@ pub mod Spots
 pub mod Functions
 pub mod Target
 pub mod Branches
-pub mod Faults
+pub mod Fault
 pub mod Example
 pub mod inner

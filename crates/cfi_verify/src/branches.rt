@@ -3,7 +3,7 @@
 ghost use Rattle.std.specs.Prelude.{◌*◌, ◌<◌, ◌^◌, ◌≤◌, length, IfSome, IfNone, IsTrue, ◌↔◌, All};
 ghost use Rattle.elf_read.specs.Lists.{Each, IsFirstBreak, own_number};
 ghost use Rattle.cfi_verify.specs.Branches.{NamesSlot, IsKindOf, KindFits, IsEntry, AreEntries, EntriesFit};
-ghost use Rattle.cfi_verify.specs.Faults.{check_place};
+ghost use Rattle.cfi_verify.specs.Fault.{check_place};
 ghost use Rattle.cfi_verify.specs.inner.Places.{AreRising, AreSmallChecks, AreFunctionsApart, AreInRange, IsFirstMisfit};
 
 use crate::checks::CheckSpot;

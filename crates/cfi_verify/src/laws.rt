@@ -3,7 +3,7 @@
 ghost use Rattle.std.specs.Prelude.{◌≡◌, List, []};
 ghost use Rattle.cfi_aux.specs.declared.placed.Placed.{Placed};
 ghost use Rattle.cfi_verify.specs.declared.fault.VerifyFault.{VerifyFault};
-ghost use Rattle.cfi_verify.specs.Faults.{IsFirstFault, IsVerified, Verifies};
+ghost use Rattle.cfi_verify.specs.Fault.{IsFirstFault, IsVerified, Verifies};
 ghost use Rattle.cfi_verify.specs.Example.{loop_module};
 
 /// A module has at most one first fault.

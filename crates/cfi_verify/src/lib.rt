@@ -1,7 +1,7 @@
 //! The verifier of placed modules: whether a module's code keeps to its functions, types and branches.
 //!
 //! Stands on `cfi_unit`, `cfi_aux`, `cfi_type_table`, `cfi_values`, `elf_read`, `rv_insn` and `thiserror`. Proved:
-//! `verify` answers the first fault of `specs/Faults.antt`, and Ok exactly where none stands. Only tested, by the cases
+//! `verify` answers the first fault of `specs/Fault.antt`, and Ok exactly where none stands. Only tested, by the cases
 //! of `cfi_cases`: that ample memory is enough, and words against an assembler. Open: when memory runs out, and the
 //! texts of faults.
 #![tactic(auto)]

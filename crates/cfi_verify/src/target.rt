@@ -4,7 +4,7 @@ ghost use Rattle.std.specs.Prelude.{◌≡◌, ℕ, List, ◌<◌, ◌^◌, Some
 ghost use Rattle.std.specs.List.Sorted.{IsNonDecreasing};
 ghost use Rattle.cfi_aux.specs.declared.placed.Placed.{Placed as Module};
 ghost use Rattle.elf_read.specs.Lists.{Each, IsFirstBreak};
-ghost use Rattle.cfi_verify.specs.Faults.{unit_place};
+ghost use Rattle.cfi_verify.specs.Fault.{unit_place};
 ghost use Rattle.cfi_verify.specs.Target.{LeadsTo, LeadsHome, LeadsToEntry, MayLead, LeadsWell};
 ghost use Rattle.cfi_verify.specs.inner.Places.{AreRising, AreSmall, AreFunctionsApart, AreInRange, AreEntriesOf};
 

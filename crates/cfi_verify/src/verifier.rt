@@ -6,7 +6,7 @@ ghost use Rattle.cfi_aux.specs.declared.placed.Placed.{Placed as Module};
 ghost use Rattle.cfi_verify.specs.Spots.{checks_of};
 ghost use Rattle.cfi_unit.specs.Spots.{AreSpots};
 ghost use Rattle.cfi_verify.specs.inner.Places.{AreEntriesOf};
-ghost use Rattle.cfi_verify.specs.Faults.{Verifies, IsVerified, IsVerifiedAs, IsLaidOut, IsFault, IsFirstFault};
+ghost use Rattle.cfi_verify.specs.Fault.{Verifies, IsVerified, IsVerifiedAs, IsLaidOut, IsFault, IsFirstFault};
 
 use crate::branches::{first_bad_switch, first_misfit, first_misnamed};
 use crate::checks::{CheckSpot, checks_of};

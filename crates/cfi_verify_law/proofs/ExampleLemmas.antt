@@ -23,12 +23,12 @@ use Rattle.cfi_place.proofs.ExampleLemmas.{loop_read}
 use Rattle.cfi_link.specs.Joined.{with_module, joined_of}
 use Rattle.cfi_link.specs.Chosen.{twice_from}
 use Rattle.cfi_link.specs.Applied.{applied_from}
-use Rattle.cfi_link.specs.Faults.{HasUnits, CanBeLinked}
+use Rattle.cfi_link.specs.Fault.{HasUnits, CanBeLinked}
 use Rattle.cfi_link.specs.Linked.{AreModules, IsTextOf, IsMadeOf}
-use Rattle.cfi_series.specs.Order.{Joins, IsPlacedBehind}
+use Rattle.cfi_modules.specs.Order.{Joins, IsPlacedBehind}
 use Rattle.cfi_verify.specs.Example.{loop_module}
 use Rattle.cfi_verify.specs.Target.{entries_in, LeadsHome, LeadsToEntry, MayLead}
-use Rattle.cfi_verify.specs.Faults.{IsVerified, IsVerifiedAs}
+use Rattle.cfi_verify.specs.Fault.{IsVerified, IsVerifiedAs}
 use Rattle.cfi_verify.proofs.ExampleLemmas.{verified, loop_verified}
 use Rattle.cfi_verify_law.specs.Parts.{JoinBehind, AreParts}
 use Rattle.cfi_verify_law.specs.Example.{loop_records, loop_source, two_linked, second_module, two_module}

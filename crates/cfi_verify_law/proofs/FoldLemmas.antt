@@ -16,10 +16,10 @@ use Rattle.cfi_place.specs.declared.room.Room.{Room}
 use Rattle.cfi_place.specs.Functions.{placed_functions}
 use Rattle.cfi_link.specs.Joined.{Joined, with_module}
 use Rattle.cfi_link.proofs.JoinedLemmas.{with_module-lengths}
-use Rattle.cfi_series.specs.Room.{room_after}
-use Rattle.cfi_series.specs.Order.{Joins}
+use Rattle.cfi_modules.specs.Room.{room_after}
+use Rattle.cfi_modules.specs.Order.{Joins}
 use Rattle.cfi_verify.specs.Target.{MayLead}
-use Rattle.cfi_verify.specs.Faults.{IsVerifiedAs}
+use Rattle.cfi_verify.specs.Fault.{IsVerifiedAs}
 use Rattle.cfi_verify_law.specs.Parts.{JoinBehind}
 use Rattle.cfi_verify_law.proofs.MovedLemmas.{words_in}
 use Rattle.cfi_verify_law.proofs.LinkedPlaceLemmas.{words_in-append}

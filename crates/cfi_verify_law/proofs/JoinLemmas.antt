@@ -6,11 +6,11 @@ use Rattle.cfi_place.specs.declared.fault.PlaceFault.{PlaceFault}
 use Rattle.cfi_place.specs.declared.fault.PlaceFault.TheVariants as place_faults
 use Rattle.cfi_place.specs.Placed.{placed_in}
 use Rattle.cfi_verify.specs.declared.fault.VerifyFault.{VerifyFault}
-use Rattle.cfi_verify.specs.Faults.{IsFirstFault, IsVerified}
-use Rattle.cfi_series.specs.declared.fault.JoinFault.{JoinFault}
-use Rattle.cfi_series.specs.declared.fault.JoinFault.TheVariants.{Place, Verify, Memory}
-use Rattle.cfi_series.specs.Room.{room_after}
-use Rattle.cfi_series.specs.Order.{names_of, IsPlacedBehind, Joins, IsJoinFault}
+use Rattle.cfi_verify.specs.Fault.{IsFirstFault, IsVerified}
+use Rattle.cfi_modules.specs.declared.fault.JoinFault.{JoinFault}
+use Rattle.cfi_modules.specs.declared.fault.JoinFault.TheVariants.{Place, Verify, Memory}
+use Rattle.cfi_modules.specs.Room.{room_after}
+use Rattle.cfi_modules.specs.Order.{names_of, IsPlacedBehind, Joins, IsJoinFault}
 use Rattle.cfi_verify_law.proofs.VerifiedLemmas.{verified_or_first}
 use Rattle.cfi_verify_law.proofs.PlaceLemmas.{placed_or_not}
 

@@ -16,12 +16,12 @@ use Rattle.cfi_unit.specs.Code.{UnitCode}
 use Rattle.cfi_unit.specs.Spots.{spots_of}
 use Rattle.cfi_place.specs.Functions.{placed_functions}
 use Rattle.cfi_link.specs.Joined.{nothing, joined_of}
-use Rattle.cfi_link.specs.Faults.{has_text, sizes_of}
+use Rattle.cfi_link.specs.Fault.{has_text, sizes_of}
 use Rattle.cfi_link.proofs.LimitLemmas.{few}
-use Rattle.cfi_series.specs.Room.{room_after}
+use Rattle.cfi_modules.specs.Room.{room_after}
 use Rattle.cfi_verify.specs.Spots.{checks_of}
 use Rattle.cfi_verify.specs.Target.{entries_in, entries_of, MayLead, LeadsWell}
-use Rattle.cfi_verify.specs.Faults.{IsVerified}
+use Rattle.cfi_verify.specs.Fault.{IsVerified}
 use Rattle.cfi_verify_law.specs.Parts.{AreParts}
 use Rattle.cfi_verify_law.proofs.LinkedRowLemmas.{Lie, HaveBranches, rows-fit, rows-end, rows-idle, rows-slots, rows-kinds, rows-entries, rows-count}
 use Rattle.cfi_verify_law.proofs.JoinedLemmas.{functions_from, branches_from, functions-all, branches-all}

@@ -21,8 +21,8 @@ use Rattle.cfi_place.specs.Relocated.{Areas, areas_of, high_parts, field_address
 use Rattle.cfi_place.specs.Value.{undefined_in}
 use Rattle.cfi_place.specs.Names.{Names}
 use Rattle.cfi_place.specs.Placed.{values_in, relocated, unless_undefined, where_fits, code_fits, data_fits, placed_in}
-use Rattle.cfi_series.proofs.LengthLemmas.{ok_is, then_ok, then_applied, numbered_ok}
-use Rattle.cfi_series.proofs.PlacedLemmas.{unless_ok, fits_ok}
+use Rattle.cfi_modules.proofs.LengthLemmas.{ok_is, then_ok, then_applied, numbered_ok}
+use Rattle.cfi_modules.proofs.PlacedLemmas.{unless_ok, fits_ok}
 
 -- ---- words
 

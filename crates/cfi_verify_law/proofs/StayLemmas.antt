@@ -12,13 +12,13 @@ use Rattle.cfi_aux.specs.declared.placed.Placed.{Placed}
 use Rattle.cfi_model.specs.Closed.{idle, IsStartOf, IsStartIn}
 use Rattle.cfi_model.proofs.ReadLemmas.{read_once}
 use Rattle.cfi_verify.specs.Functions.{may_be_last}
-use Rattle.cfi_series.specs.Loaded.{AreLoaded, IsLoadedImage}
-use Rattle.cfi_series.proofs.ClosedLemmas.{all, us, trimmed, body}
-use Rattle.cfi_series.proofs.GrowthLemmas.{loaded_some}
-use Rattle.cfi_series.proofs.SpelledLemmas.{words_of_all}
-use Rattle.cfi_series.proofs.ReadLemmas.{read}
-use Rattle.cfi_series.proofs.JoinedLemmas.{HasUnits, joined, place_left, there_left, from_right}
-use Rattle.cfi_series.proofs.TrimmedLemmas.{EndsUnlinked, idle_goes_on}
+use Rattle.cfi_modules.specs.Loaded.{AreLoaded, IsLoadedImage}
+use Rattle.cfi_modules.proofs.ClosedLemmas.{all, us, trimmed, body}
+use Rattle.cfi_modules.proofs.GrowthLemmas.{loaded_some}
+use Rattle.cfi_modules.proofs.SpelledLemmas.{words_of_all}
+use Rattle.cfi_modules.proofs.ReadLemmas.{read}
+use Rattle.cfi_modules.proofs.JoinedLemmas.{HasUnits, joined, place_left, there_left, from_right}
+use Rattle.cfi_modules.proofs.TrimmedLemmas.{EndsUnlinked, idle_goes_on}
 
 -- the units of more modules begin with those of the first
 joined_prefix : (xs ys : List Placed) (more : AllByRecursion HasUnits (xs ++ ys)) (part : AllByRecursion HasUnits xs)

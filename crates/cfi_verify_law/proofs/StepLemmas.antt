@@ -25,13 +25,13 @@ use Rattle.cfi_place.specs.Functions.{placed_functions}
 use Rattle.cfi_link.specs.declared.start.Start.{Start}
 use Rattle.cfi_link.specs.Joined.{Joined, with_module, start_of, function_at, branch_at}
 use Rattle.cfi_link.proofs.JoinedLemmas.{fold-below, with_module-lengths}
-use Rattle.cfi_series.specs.Room.{first_room, room_behind, room_after}
-use Rattle.cfi_series.specs.Order.{IsPlacedBehind, names_of}
-use Rattle.cfi_series.proofs.PlacedLemmas.{fits}
+use Rattle.cfi_modules.specs.Room.{first_room, room_behind, room_after}
+use Rattle.cfi_modules.specs.Order.{IsPlacedBehind, names_of}
+use Rattle.cfi_modules.proofs.PlacedLemmas.{fits}
 use Rattle.cfi_verify.specs.declared.checks.CheckSpot.{CheckSpot}
 use Rattle.cfi_verify.specs.Spots.{check_of, checks_of}
 use Rattle.cfi_verify.specs.Target.{entries_in, entries_of, MayLead}
-use Rattle.cfi_verify.specs.Faults.{IsVerifiedAs}
+use Rattle.cfi_verify.specs.Fault.{IsVerifiedAs}
 use Rattle.cfi_verify_law.proofs.MovedLemmas.{moved, moved_check, words_in, spots-moved, spots-append, spots-high, checks-moved}
 use Rattle.cfi_verify_law.proofs.LinkedRowLemmas.{Lie, HaveBranches, lie-rows, lie-append, have-rows, have-append}
 use Rattle.cfi_verify_law.proofs.PartLemmas.{IsMoved, AreMoved, StandsIn, node-there, lie, leads, have}

@@ -12,7 +12,7 @@ use Rattle.cfi_verify.specs.Spots.{checks_of}
 use Rattle.cfi_verify.specs.Functions.{FitsBehind, IsIdleBehind, EndsWell}
 use Rattle.cfi_verify.specs.Target.{LeadsWell}
 use Rattle.cfi_verify.specs.Branches.{NamesSlot, KindFits, EntriesFit}
-use Rattle.cfi_verify.specs.Faults.{unit_place, check_place, IsFirstFault, Verifies, IsLaidOut, IsVerified}
+use Rattle.cfi_verify.specs.Fault.{unit_place, check_place, IsFirstFault, Verifies, IsLaidOut, IsVerified}
 use Rattle.cfi_verify.specs.inner.Reading.{IsFirstIllegal}
 use Rattle.cfi_verify.proofs.FaultLemmas.{clear_one, is_first, first_illegal, first_stop}
 use Rattle.cfi_verify.proofs.RowLemmas.{clear_four, clear_five, clear_six, clear_laid, clear_eight, clear_nine, first_slot, first_functions, first_open, first_target, first_kinds, first_switch}

@@ -4,7 +4,7 @@ use Rattle.std.specs.List.{flat_map}
 use Rattle.cfi_aux.specs.declared.modules.Module.{Module}
 use Rattle.cfi_aux.specs.declared.placed.Placed.{Placed}
 use Rattle.cfi_link.specs.Linked.{AreModules, Linked}
-use Rattle.cfi_series.specs.Order.{Joins, IsPlacedBehind}
+use Rattle.cfi_modules.specs.Order.{Joins, IsPlacedBehind}
 
 -- each of the modules joins those before it: the placed ones that stand already, and the parts of the modules before
 abbrev pub JoinBehind : (code_words : ℕ) → (before : List Placed) → List Module → (parts : List Placed) → Type 0

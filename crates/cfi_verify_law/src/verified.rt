@@ -2,7 +2,7 @@
 
 ghost use Rattle.std.specs.Prelude.{◌⊎◌, List};
 ghost use Rattle.cfi_aux.specs.declared.placed.Placed.{Placed};
-ghost use Rattle.cfi_verify.specs.Faults.{IsFirstFault, IsVerified, Verifies};
+ghost use Rattle.cfi_verify.specs.Fault.{IsFirstFault, IsVerified, Verifies};
 ghost use Rattle.cfi_verify.specs.declared.fault.VerifyFault.{VerifyFault};
 
 /// No fault stands against a module exactly where it is verified: its words are units, and each row holds of them.

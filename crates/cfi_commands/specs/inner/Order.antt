@@ -1,9 +1,9 @@
 -- The fault of modules that are placed one after the other.
 use Rattle.std.specs.Prelude.{◌≡◌, ℕ, List}
 use Rattle.cfi_aux.specs.declared.modules.Module.{Module}
-use Rattle.cfi_series.specs.declared.fault.JoinFault.{JoinFault}
-use Rattle.cfi_series.specs.declared.fault.JoinFault.TheVariants as joins
-use Rattle.cfi_series.specs.Order.{IsFirstRefused}
+use Rattle.cfi_modules.specs.declared.fault.JoinFault.{JoinFault}
+use Rattle.cfi_modules.specs.declared.fault.JoinFault.TheVariants as joins
+use Rattle.cfi_modules.specs.Order.{IsFirstRefused}
 use Rattle.cfi_commands.specs.declared.fault.CommandFault.{CommandFault}
 use Rattle.cfi_commands.specs.declared.fault.CommandFault.TheVariants.{File, Memory}
 use Rattle.cfi_commands.specs.declared.refusal.Refusal.TheVariants.{Place, Verify}

@@ -1,6 +1,6 @@
 -- The guests of a run that is over.
 use Rattle.std.specs.Prelude.{◌≡◌, ◌≢◌, ◌⊎◌, ℕ, ◌<◌, List, length, slice_index_or, None, Some}
-use Rattle.cfi_drive.specs.Runner.{Ran}
+use Rattle.cfi_guest_run.specs.Runner.{Ran}
 use Rattle.cfi_model.specs.declared.act.Wait.TheVariants as waits
 use Rattle.cfi_word.specs.declared.services.TheConstants.{OPEN}
 

@@ -1,7 +1,7 @@
 -- How much a module with stubs has, counted up to the greatest number of the machine.
 use Rattle.std.specs.Prelude.{ℕ, zero, suc, ◌+◌, ◌*◌, length, min}
 use Rattle.cfi_import.specs.declared.object_sizes.Sizes.{Sizes}
-use Rattle.cfi_import.specs.Limits.{module_sizes}
+use Rattle.cfi_import.specs.Limit.{module_sizes}
 use Rattle.cfi_aux.specs.Records.{padding}
 use Rattle.cfi_aux.specs.declared.modules.Module.{Module}
 use Rattle.cfi_import.specs.declared.start.TheConstants.{STUB_BYTES, CELL_BYTES, STUB_SYMBOLS}

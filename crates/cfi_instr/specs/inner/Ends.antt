@@ -1,5 +1,5 @@
--- Which words functions have, in whatever order they stand. A table has for each word the greatest end, in bytes, of the
--- functions that begin at the word or before it.
+-- Which words functions have, in whatever order they stand. A table has for each word the greatest end, in bytes, of
+-- the functions that begin at the word or before it.
 use Rattle.std.specs.Prelude.{◌≡◌, ◌⊎◌, ℕ, ◌+◌, ◌*◌, ◌/◌, ◌<◌, ◌≤◌, Bool, nat_lt, List, length, slice_index}
 use Rattle.cfi_aux.specs.declared.records.Function.{Function}
 use Rattle.cfi_instr.specs.inner.Functions.{is_covered}

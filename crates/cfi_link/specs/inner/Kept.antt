@@ -8,7 +8,7 @@ use Rattle.cfi_link.specs.declared.chosen.Definitions.{Definitions}
 use Rattle.cfi_link.specs.declared.fault.LinkFault.{LinkFault}
 use Rattle.cfi_link.specs.declared.fault.LinkFault.TheVariants as faults
 use Rattle.cfi_link.specs.Joined.{Joined}
-use Rattle.cfi_link.specs.Faults.{has_text, IsFirstStray, IsAfter}
+use Rattle.cfi_link.specs.Fault.{has_text, IsFirstStray, IsAfter}
 
 -- joined modules
 abbrev pub whole_of : Inside → Joined

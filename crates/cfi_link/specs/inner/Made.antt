@@ -9,7 +9,7 @@ use Rattle.cfi_link.specs.declared.fault.LinkFault.{LinkFault}
 use Rattle.cfi_link.specs.declared.fault.LinkFault.TheVariants as faults
 use Rattle.cfi_link.specs.Joined.{Joined}
 use Rattle.cfi_link.specs.Chosen.{twice_in}
-use Rattle.cfi_link.specs.Faults.{relocated_by}
+use Rattle.cfi_link.specs.Fault.{relocated_by}
 
 -- the object of joined modules, of which nothing is changed yet
 abbrev pub object_of : Joined → Object

@@ -11,7 +11,7 @@ use Rattle.cfi_tables.specs.Key.{Key}
 use Rattle.cfi_ledger.specs.declared.books.Books.{Books}
 use Rattle.cfi_loader.specs.Ledger.{Ledger, IsLedger}
 use Rattle.cfi_loader.specs.Told.{HasTold}
-use Rattle.cfi_ledger.specs.Findings.{AreFindings}
+use Rattle.cfi_ledger.specs.Finding.{AreFindings}
 use Rattle.cfi_ledger.specs.Books.{course_in, IsRosterOf}
 use Rattle.cfi_ledger.specs.Roster.{IsBookOfRoster}
 

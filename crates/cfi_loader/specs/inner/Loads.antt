@@ -3,8 +3,8 @@ use Rattle.std.specs.Prelude.{◌≡◌, ℕ}
 use Rattle.cfi_plan.specs.declared.journal.JournalLine.{JournalLine}
 use Rattle.cfi_plan.specs.declared.journal.JournalLine.TheVariants as lines
 use Rattle.cfi_plan.specs.declared.journal.Who.{Who}
-use Rattle.cfi_series.specs.declared.fault.JoinFault.{JoinFault}
-use Rattle.cfi_series.specs.declared.fault.JoinFault.TheVariants as joins
+use Rattle.cfi_modules.specs.declared.fault.JoinFault.{JoinFault}
+use Rattle.cfi_modules.specs.declared.fault.JoinFault.TheVariants as joins
 use Rattle.cfi_tables.specs.Keeping.{Keeping}
 use Rattle.cfi_tables.specs.Key.{Key}
 use Rattle.cfi_tables.specs.declared.fault.UpdateFault.{UpdateFault}

@@ -2,7 +2,7 @@
 use Rattle.std.specs.Prelude.{◌≡◌, []}
 use Rattle.cfi_tables.specs.Keeping.{opened_keeping}
 use Rattle.cfi_loader.specs.declared.start.Start.TheInside.{Inside}
-use Rattle.cfi_loader.specs.Starting.{Started}
+use Rattle.cfi_loader.specs.Start.{Started}
 use Rattle.cfi_loader.specs.inner.Books.{ledger_of, BooksAgree}
 
 -- the parts of a start, as its loader will have them

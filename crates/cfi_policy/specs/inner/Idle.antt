@@ -3,7 +3,7 @@ use Rattle.std.specs.Prelude.{◌≡◌, ◌↔◌, ◌⊎◌, ℕ, ◌+◌, ◌
 use Rattle.std.specs.List.{Contains, AllPairs}
 use Rattle.cfi_word.specs.declared.ids.TheConstants.{FIELD_MAX}
 use Rattle.cfi_aux.specs.declared.placed.Placed.{Placed}
-use Rattle.cfi_policy.specs.Groups.{IsBranch}
+use Rattle.cfi_policy.specs.Group.{IsBranch}
 
 -- the slot is one of so many from the base on, and has no class
 abbrev pub IsIdleAmong : (base count : ℕ) → (bary : List ℕ) → (slot : ℕ) → Type 0

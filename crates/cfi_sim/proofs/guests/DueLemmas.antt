@@ -4,7 +4,7 @@ use Rattle.std.proofs.lemmas.List.Elements.{All-nil}
 use Rattle.cfi_aux.specs.declared.placed.Placed.{Placed}
 use Rattle.cfi_ledger.specs.Policies.{HavePolicies}
 use Rattle.cfi_ledger.proofs.DueLemmas.{later_fills}
-use Rattle.cfi_series.specs.Fills.{fills_of}
+use Rattle.cfi_modules.specs.Fills.{fills_of}
 use Rattle.cfi_model.specs.Data.{LiesInData}
 use Rattle.cfi_model.specs.Raw.{Raw}
 use Rattle.cfi_model.specs.Words.{policy_in_force}

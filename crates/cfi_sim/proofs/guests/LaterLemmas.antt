@@ -21,7 +21,7 @@ use Rattle.cfi_valid.specs.Replay.{singles, next_in, given_by, IsReplyOf, TakesP
 use Rattle.cfi_valid.proofs.GrowthLemmas.{loaded_stays}
 use Rattle.cfi_valid.proofs.SpanLemmas.{fall_least}
 use Rattle.cfi_graph.specs.Direct.{Allowed}
-use Rattle.cfi_series.specs.Fills.{fills_of}
+use Rattle.cfi_modules.specs.Fills.{fills_of}
 
 -- ---- the policies of a log
 

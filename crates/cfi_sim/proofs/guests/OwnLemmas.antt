@@ -33,7 +33,7 @@ use Rattle.cfi_plan.specs.declared.plan.Plan.{Plan}
 use Rattle.cfi_sim.specs.declared.aim.Aim.{Aim}
 use Rattle.cfi_model.specs.Log.{pick_entries}
 use Rattle.cfi_valid.specs.FromLaw.{HasPolicies, BringsDue}
-use Rattle.cfi_series.specs.Loaded.{AreLoaded, IsLoadedImage}
+use Rattle.cfi_modules.specs.Loaded.{AreLoaded, IsLoadedImage}
 use Rattle.cfi_model.specs.Tables.{IsTables}
 use Rattle.cfi_model.specs.Words.{Tables}
 use Rattle.cfi_model.specs.Shows.{IsReady}

@@ -25,8 +25,8 @@ use Rattle.cfi_valid.specs.Loaded.{LoadedModule, placed_modules, loaded_by, star
 use Rattle.cfi_valid.specs.Replay.{Replays}
 use Rattle.cfi_valid.specs.Running.{HasReplayed}
 use Rattle.cfi_valid.proofs.GrowthLemmas.{loaded_stays}
-use Rattle.cfi_series.specs.Entry.{IsEntryIn}
-use Rattle.cfi_series.specs.Fills.{fills_of}
+use Rattle.cfi_modules.specs.Entry.{IsEntryIn}
+use Rattle.cfi_modules.specs.Fills.{fills_of}
 use Rattle.cfi_world.proofs.LaterLemmas.{guest_later}
 
 -- ---- later states

@@ -8,12 +8,12 @@ use Rattle.std.proofs.lemmas.Option.{slice_get_within, get_or_from_slice_get}
 use Rattle.std.proofs.Common.{◌≡◌, ◌≢◌, ℕ, ◌+◌, ◌≤◌, ◌==◌, ◌++◌, cond, Bool, true, false, List, [], ◌∷◌, length, take, Option, Some, None, refl, sym, ◌∙◌, ap, subst, arith}
 use Rattle.std.specs.List.{All}
 use Rattle.cfi_policy.specs.Code.{IsCodeOf}
-use Rattle.cfi_series.proofs.OrderLemmas.{series_more}
+use Rattle.cfi_modules.proofs.OrderLemmas.{series_more}
 use Rattle.cfi_world.specs.declared.event.Event.TheVariants as events
 use Rattle.cfi_world.specs.declared.event.Turned.TheVariants.{EpochsSpent}
-use Rattle.cfi_series.specs.Series.{IsSeries}
+use Rattle.cfi_modules.specs.Series.{IsSeries}
 use Rattle.cfi_model.specs.Words.{Tables, entry_at, newest, epoch_in_force}
-use Rattle.cfi_series.proofs.ImageLemmas.{closed}
+use Rattle.cfi_modules.proofs.ImageLemmas.{closed}
 use Rattle.cfi_sim.specs.Events.{Begins}
 use Rattle.cfi_world.specs.Updates.{is_idle, begun, asked_entry}
 use Rattle.cfi_sim.specs.declared.aim.Aim.{Aim}
@@ -22,12 +22,12 @@ use Rattle.cfi_sim.specs.Stage.{Stage, after_event}
 use Rattle.cfi_model.specs.InForce.{in_force}
 use Rattle.cfi_model.specs.Data.{LiesInData}
 use Rattle.cfi_sim.specs.Stands.{Holds}
-use Rattle.cfi_series.proofs.GrowthLemmas.{code_kept}
+use Rattle.cfi_modules.proofs.GrowthLemmas.{code_kept}
 use Rattle.cfi_sim.specs.Agrees.{HasComingEntry, IsEntryFor, TablesAgree, WorldAgrees}
 use Rattle.cfi_policy.specs.Image.{IsImage}
 use Rattle.cfi_sim.proofs.journal.ComingLemmas.{idle_comes, all_loaded, among}
-use Rattle.cfi_series.specs.Fills.{fill_of, fills_of}
-use Rattle.cfi_series.proofs.GraphLemmas.{are_loaded}
+use Rattle.cfi_modules.specs.Fills.{fill_of, fills_of}
+use Rattle.cfi_modules.proofs.GraphLemmas.{are_loaded}
 use Rattle.cfi_aux.specs.declared.modules.Module.{Module}
 use Rattle.cfi_sim.proofs.journal.AdvanceLemmas.{guests_on}
 use Rattle.cfi_sim.proofs.journal.MadeLemmas.{IsComing}

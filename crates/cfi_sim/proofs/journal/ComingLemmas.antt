@@ -7,7 +7,7 @@ use Rattle.cfi_ledger.specs.Policies.{IsPolicyOf}
 use Rattle.cfi_sim.specs.Agrees.{coming_by, coming}
 use Rattle.cfi_model.specs.Tables.{IsTables}
 use Rattle.cfi_world.specs.Updates.{next_store}
-use Rattle.cfi_series.specs.Loaded.{AreLoaded, AreAmong, IsLoadedImage}
+use Rattle.cfi_modules.specs.Loaded.{AreLoaded, AreAmong, IsLoadedImage}
 use Rattle.cfi_model.specs.InForce.{in_force}
 use Rattle.cfi_policy.specs.Image.{IsImage}
 use Rattle.cfi_valid.specs.Loaded.{LoadedModule, placed_modules, loaded_by}

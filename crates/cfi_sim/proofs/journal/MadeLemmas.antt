@@ -4,29 +4,29 @@ use Rattle.std.proofs.lemmas.Option.{slice_get_within}
 use Rattle.std.proofs.lemmas.Bool.{cases_lt}
 use Rattle.std.specs.List.{AllByRecursion, slice_get}
 use Rattle.std.proofs.Common.{◌≡◌, ◌≢◌, ℕ, ◌+◌, ◌≤◌, ◌++◌, List, [], ◌∷◌, length, length-append, Some, None, refl, sym, ◌∙◌, ap, subst, arith, inl, inr}
-use Rattle.cfi_series.specs.Series.{IsSeries}
+use Rattle.cfi_modules.specs.Series.{IsSeries}
 use Rattle.cfi_ledger.specs.Policies.{IsPolicyOf}
 use Rattle.cfi_sim.specs.Agrees.{NumbersAreApart, IsEntryFor, coming, HasComingEntry, TablesAgree}
 use Rattle.cfi_valid.proofs.GrowthLemmas.{loaded_stays}
 use Rattle.cfi_model.specs.Tables.{IsTables}
-use Rattle.cfi_series.specs.Loaded.{AreLoaded, IsLoadedImage}
+use Rattle.cfi_modules.specs.Loaded.{AreLoaded, IsLoadedImage}
 use Rattle.cfi_model.specs.InForce.{in_force}
 use Rattle.cfi_sim.proofs.journal.ComingLemmas.{idle_comes, storing_comes, low_more, policy_of_all}
 use Rattle.cfi_valid.specs.Growth.{IsLater}
 use Rattle.cfi_policy.specs.Image.{IsImage}
-use Rattle.cfi_series.proofs.GraphLemmas.{are_loaded}
+use Rattle.cfi_modules.proofs.GraphLemmas.{are_loaded}
 use Rattle.cfi_aux.specs.declared.modules.Module.{Module}
 use Rattle.cfi_sim.specs.declared.aim.Aim.{Aim}
 use Rattle.cfi_sim.specs.declared.aim.Aim.TheVariants.{Loading, Refreshing}
 use Rattle.cfi_valid.specs.Loaded.{LoadedModule, placed_modules, loaded_by, live_at, IsLoaded}
 use Rattle.cfi_plan.specs.declared.plan.Plan.{Plan}
 use Rattle.cfi_model.proofs.InForceLemmas.{force_within, later_rises}
-use Rattle.cfi_series.specs.Order.{Joins}
+use Rattle.cfi_modules.specs.Order.{Joins}
 use Rattle.cfi_valid.specs.Journal.{JournalState, IsClean, with_loaded}
 use Rattle.cfi_model.specs.declared.history.Entry.{Entry}
 use Rattle.cfi_model.specs.Words.{Tables, entry_at, newest}
 use Rattle.cfi_graph.proofs.BoundLemmas.{contains_at}
-use Rattle.cfi_series.proofs.OrderLemmas.{left, last, joins_once}
+use Rattle.cfi_modules.proofs.OrderLemmas.{left, last, joins_once}
 use Rattle.cfi_aux.specs.declared.placed.Placed.{Placed}
 use Rattle.cfi_graph.specs.Direct.{DirectEdge}
 

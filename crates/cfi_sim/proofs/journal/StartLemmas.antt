@@ -18,13 +18,13 @@ use Rattle.cfi_model.specs.Words.{Tables, entry_at}
 use Rattle.cfi_model.specs.World.{World, first_entry, opened_world, quiet_of, point_of}
 use Rattle.cfi_plan.specs.declared.plan.Plan.{Plan}
 use Rattle.cfi_plan.specs.Plan.{IsPlan}
-use Rattle.cfi_series.specs.Entry.{IsEntryIn}
-use Rattle.cfi_series.specs.Loaded.{AreLoaded}
-use Rattle.cfi_series.specs.Series.{IsSeries}
-use Rattle.cfi_series.proofs.GraphLemmas.{are_loaded}
-use Rattle.cfi_series.proofs.ImageLemmas.{closed, entry_start}
-use Rattle.cfi_series.proofs.PrefixLemmas.{data_lies}
-use Rattle.cfi_series.proofs.SeriesLemmas.{item_at}
+use Rattle.cfi_modules.specs.Entry.{IsEntryIn}
+use Rattle.cfi_modules.specs.Loaded.{AreLoaded}
+use Rattle.cfi_modules.specs.Series.{IsSeries}
+use Rattle.cfi_modules.proofs.GraphLemmas.{are_loaded}
+use Rattle.cfi_modules.proofs.ImageLemmas.{closed, entry_start}
+use Rattle.cfi_modules.proofs.PrefixLemmas.{data_lies}
+use Rattle.cfi_modules.proofs.SeriesLemmas.{item_at}
 use Rattle.cfi_sim.specs.declared.limits.TheConstants.{MAX_UPDATES}
 use Rattle.cfi_ledger.specs.Policies.{IsPolicyOf}
 use Rattle.cfi_sim.specs.Agrees.{NumbersAreApart, IsOfPlan, HasFound, HasComingEntry, coming, TablesAgree, GuestsAgree, WorldAgrees}

@@ -1,6 +1,6 @@
 -- Lines of a schedule, one after the other, as a simulation under way makes them.
 use Rattle.std.specs.Prelude.{◌≡◌, ℕ, List, ◌++◌, ⊤}
-use Rattle.cfi_sim.specs.Faults.{IsBadLine}
+use Rattle.cfi_sim.specs.Fault.{IsBadLine}
 use Rattle.cfi_sim.specs.Schedule.{PassesNoLimit, LineMakes, LinesMake}
 use Rattle.cfi_sim.specs.Stage.{Stage}
 use Rattle.cfi_sim.specs.declared.fault.SimFault.{SimFault}

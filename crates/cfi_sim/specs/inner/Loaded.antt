@@ -1,7 +1,7 @@
 -- What an open finds of a module that is loaded.
 use Rattle.cfi_aux.specs.declared.placed.Placed.{Placed}
 use Rattle.cfi_model.specs.World.{World}
-use Rattle.cfi_series.specs.Entry.{IsGlobal, IsFirstOf, HasNoneOf}
+use Rattle.cfi_modules.specs.Entry.{IsGlobal, IsFirstOf, HasNoneOf}
 use Rattle.cfi_sim.specs.Events.{IsIdle}
 use Rattle.cfi_sim.specs.declared.found.Found.{Found}
 use Rattle.cfi_sim.specs.declared.found.Found.TheVariants.{Unknown, Functionless, Opened, Unloaded}

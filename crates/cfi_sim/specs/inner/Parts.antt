@@ -1,7 +1,7 @@
 -- Parts of a report, guest by guest.
 use Rattle.std.specs.Prelude.{◌≡◌, ℕ, List, length, slice_get, Some}
 use Rattle.cfi_model.specs.Raw.{Raw}
-use Rattle.cfi_part.specs.Part.{part_of}
+use Rattle.cfi_guest_part.specs.Part.{part_of}
 use Rattle.cfi_plan.specs.declared.plan.Plan.{Plan}
 use Rattle.cfi_report.specs.declared.report.GuestPart.{GuestPart}
 

@@ -6,8 +6,8 @@ use Rattle.cfi_model.specs.Raw.{Raw}
 use Rattle.cfi_model.specs.World.{World}
 use Rattle.cfi_plan.specs.declared.plan.Plan.{Plan}
 use Rattle.cfi_plan.specs.Plan.{IsPlan}
-use Rattle.cfi_series.specs.Order.{Joins}
-use Rattle.cfi_series.specs.Series.{CanBeTaken}
+use Rattle.cfi_modules.specs.Order.{Joins}
+use Rattle.cfi_modules.specs.Series.{CanBeTaken}
 use Rattle.cfi_sim.specs.Events.{IsAnswered, IsGuestEvent, IsReleaseEvent}
 use Rattle.cfi_sim.specs.Stage.{Stage}
 use Rattle.cfi_sim.specs.Stands.{IsGoing}

@@ -3,7 +3,7 @@
 ghost use Rattle.std.specs.Prelude.{◌≡◌, ◌<◌};
 ghost use Rattle.cfi_ledger.specs.Policies.{HavePolicies};
 ghost use Rattle.cfi_model.specs.Words.{policy_in_force};
-ghost use Rattle.cfi_series.specs.Series.{IsSeries};
+ghost use Rattle.cfi_modules.specs.Series.{IsSeries};
 ghost use Rattle.cfi_sim.specs.Agrees.{NumbersAreApart};
 ghost use Rattle.cfi_sim.specs.declared.limits.TheConstants.{MAX_EVENTS};
 ghost use Rattle.cfi_sim.specs.inner.Standing.{AnswersOpen, GoesBy, ReleasesBy, IsThere, IsUnderWay};

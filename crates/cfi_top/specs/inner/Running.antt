@@ -5,7 +5,7 @@ use Rattle.cfi_bare.specs.File.{IsBareFile}
 use Rattle.cfi_plan.specs.declared.plan.Plan.{Plan}
 use Rattle.cfi_plan.specs.Bare.{bare_plan}
 use Rattle.cfi_commands.specs.Modules.{AreModuleFiles}
-use Rattle.cfi_drive.specs.Concluded.{Conclusion, IsConcluded}
+use Rattle.cfi_guest_run.specs.Concluded.{Conclusion, IsConcluded}
 use Rattle.cfi_report.specs.Report.{report_text}
 use Rattle.cfi_top.specs.declared.answer.Answer.{Answer}
 use Rattle.cfi_top.specs.declared.answer.Answer.TheVariants as answers

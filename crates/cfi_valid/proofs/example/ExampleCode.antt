@@ -6,9 +6,9 @@ use Rattle.cfi_aux.specs.declared.placed.Placed.{Placed}
 use Rattle.cfi_bare.proofs.LoadedLemmas.{copies}
 use Rattle.cfi_model.specs.Shows.{Stands}
 use Rattle.cfi_policy.specs.Code.{IsCodeOf}
-use Rattle.cfi_series.specs.Loaded.{AreLoaded}
-use Rattle.cfi_series.proofs.MadeLemmas.{code_for, code_is}
-use Rattle.cfi_series.proofs.SpelledLemmas.{words_of_all}
+use Rattle.cfi_modules.specs.Loaded.{AreLoaded}
+use Rattle.cfi_modules.proofs.MadeLemmas.{code_for, code_is}
+use Rattle.cfi_modules.proofs.SpelledLemmas.{words_of_all}
 use Rattle.cfi_unit.specs.declared.unit.Unit.{Unit as CodeUnit}
 use Rattle.cfi_unit.specs.Unit.{IsUnit, words_of, size_of}
 use Rattle.cfi_word.specs.declared.map.TheConstants.{FIRST_BASE}

@@ -19,8 +19,8 @@ use Rattle.cfi_place.specs.Relocated.{areas_of, relocated_from}
 use Rattle.cfi_place.specs.Slots.{ReadFrom}
 use Rattle.cfi_verify.specs.Functions.{FitsBehind, IsLastIn, EndsWell}
 use Rattle.cfi_verify.specs.Target.{MayLead, LeadsWell}
-use Rattle.cfi_verify.specs.Faults.{IsVerified}
-use Rattle.cfi_bare.specs.Module.{bare_types}
+use Rattle.cfi_verify.specs.Fault.{IsVerified}
+use Rattle.cfi_bare.specs.Modules.{bare_types}
 use Rattle.cfi_bare.proofs.LoadedLemmas.{IsPlacedFile, IsWhole}
 use Rattle.cfi_valid.specs.Example.{hello_bytes}
 use Rattle.cfi_valid.proofs.EachLemmas.{each_none, each_one, each_of}

@@ -11,7 +11,7 @@ use Rattle.cfi_model.specs.Service.{too_many}
 use Rattle.cfi_model.specs.Shows.{Stands}
 use Rattle.cfi_model.specs.State.{State, opened}
 use Rattle.cfi_policy.specs.Code.{IsCodeOf}
-use Rattle.cfi_series.specs.Order.{Joins}
+use Rattle.cfi_modules.specs.Order.{Joins}
 use Rattle.cfi_bare.proofs.LoadedLemmas.{loaded as loaded_alone}
 use Rattle.cfi_report.specs.declared.report.GuestPart.{GuestPart}
 use Rattle.cfi_plan.specs.Bare.{bare_plan}

@@ -12,7 +12,7 @@ use Rattle.cfi_verify.specs.Branches.{NamesSlot, KindFits, IsEntry, EntriesFit}
 use Rattle.cfi_verify.specs.Spots.{checks_of}
 use Rattle.cfi_verify.specs.Functions.{FitsBehind, EndsWell}
 use Rattle.cfi_verify.specs.Target.{MayLead}
-use Rattle.cfi_verify.specs.Faults.{IsVerified}
+use Rattle.cfi_verify.specs.Fault.{IsVerified}
 use Rattle.cfi_valid.proofs.EachLemmas.{each_of, each_numbered, most_by}
 use Rattle.cfi_valid.proofs.example.TablePlaced.{lib_units, lib_fit, twice, incr, sel, choose, lib_placed}
 

@@ -4,7 +4,7 @@ use Rattle.std.specs.Prelude.{codes, ⊤}
 use Rattle.std.specs.List.{slice_get}
 use Rattle.cfi_flow.proofs.Members.{member_first, member_later}
 use Rattle.cfi_report.specs.declared.report.GuestPart.{GuestPart}
-use Rattle.cfi_series.specs.Entry.{IsEntryIn}
+use Rattle.cfi_modules.specs.Entry.{IsEntryIn}
 use Rattle.cfi_unit.specs.declared.log.Log.{Log}
 use Rattle.cfi_unit.specs.declared.log.Log.TheVariants.{Pick, Open, Cause}
 use Rattle.cfi_valid.specs.Course.{Course}

@@ -12,7 +12,7 @@ use Rattle.cfi_plan.specs.declared.journal.Who.TheVariants.{Script, Guest}
 use Rattle.cfi_plan.specs.declared.plan.ScriptLine.TheVariants as script
 use Rattle.cfi_report.specs.declared.report.GuestPart.{GuestPart}
 use Rattle.cfi_report.specs.declared.report.Report.{Report}
-use Rattle.cfi_series.specs.Entry.{IsGlobal, IsFirstOf}
+use Rattle.cfi_modules.specs.Entry.{IsGlobal, IsFirstOf}
 use Rattle.cfi_unit.specs.declared.log.Log.TheVariants.{Pick, Open, Cause}
 use Rattle.cfi_unit.specs.declared.log.Stop.{Stop}
 use Rattle.cfi_unit.specs.declared.log.Stop.TheVariants.{Exit}

@@ -19,17 +19,17 @@ use Rattle.cfi_aux.specs.declared.placed.PlacedFunction.{PlacedFunction}
 use Rattle.cfi_aux.specs.declared.records.Kind.{Kind}
 use Rattle.cfi_aux.specs.declared.records.Kind.TheVariants.{Call, Return}
 use Rattle.cfi_flow.proofs.Members.{member_of_one}
-use Rattle.cfi_bare.specs.Module.{bare_types}
+use Rattle.cfi_bare.specs.Modules.{bare_types}
 use Rattle.cfi_bare.specs.declared.modules.TheConstants.{FUNCTION_TYPE}
 use Rattle.cfi_place.specs.Relocated.{areas_of, relocated_from}
 use Rattle.cfi_place.specs.Slots.{ReadFrom}
-use Rattle.cfi_series.specs.Order.{IsPlacedBehind, Joins}
+use Rattle.cfi_modules.specs.Order.{IsPlacedBehind, Joins}
 use Rattle.cfi_verify.specs.Branches.{NamesSlot, IsKindOf, KindFits, IsEntry, EntriesFit}
 use Rattle.cfi_verify.specs.declared.checks.CheckSpot.{CheckSpot}
 use Rattle.cfi_verify.specs.Spots.{checks_of}
 use Rattle.cfi_verify.specs.Functions.{FitsBehind, may_be_last, IsLastIn, EndsWell}
 use Rattle.cfi_verify.specs.Target.{MayLead, LeadsWell}
-use Rattle.cfi_verify.specs.Faults.{IsVerified}
+use Rattle.cfi_verify.specs.Fault.{IsVerified}
 use Rattle.cfi_valid.specs.LoadExample.{opener_bytes, opener, plug_bytes, plug}
 use Rattle.cfi_valid.proofs.EachLemmas.{each_one, each_of}
 use Rattle.cfi_valid.proofs.example.ExampleLemmas.{sets, stands_still}

@@ -5,7 +5,7 @@ use Rattle.std.specs.List.{AllZip}
 use Rattle.cfi_aux.specs.declared.placed.Placed.{Placed}
 use Rattle.cfi_aux.specs.declared.placed.PlacedFunction.{PlacedFunction}
 use Rattle.cfi_aux.specs.declared.records.Kind.TheVariants.{Call, Return}
-use Rattle.cfi_bare.specs.Module.{bare_types}
+use Rattle.cfi_bare.specs.Modules.{bare_types}
 use Rattle.cfi_bare.specs.declared.modules.TheConstants.{FUNCTION_TYPE}
 use Rattle.cfi_flow.proofs.Members.{member_first, member_later}
 use Rattle.cfi_graph.specs.Calls.{HasKind, IsFunction, MayPoint}

@@ -11,8 +11,8 @@ use Rattle.cfi_model.specs.Service.{Reply, reply_of, too_many}
 use Rattle.cfi_model.specs.Shows.{Stands}
 use Rattle.cfi_model.specs.State.{State, opened}
 use Rattle.cfi_policy.specs.Code.{IsCodeOf}
-use Rattle.cfi_series.specs.Loaded.{IsVerifiedAmong, AreLoaded}
-use Rattle.cfi_series.proofs.LoadedLemmas.{begins}
+use Rattle.cfi_modules.specs.Loaded.{IsVerifiedAmong, AreLoaded}
+use Rattle.cfi_modules.proofs.LoadedLemmas.{begins}
 use Rattle.cfi_unit.specs.declared.log.Log.{Log}
 use Rattle.cfi_unit.specs.declared.log.Log.TheVariants.{Pick, Open}
 use Rattle.cfi_unit.specs.declared.unit.Unit.{Unit as CodeUnit}
@@ -23,7 +23,7 @@ use Rattle.cfi_valid.proofs.example.ExampleCode.{code_at, is_code_at, stands}
 use Rattle.cfi_valid.proofs.example.ExampleLemmas.{sets}
 use Rattle.cfi_valid.proofs.example.LoadPlaced.{calls, returns, opener_placed, plug_placed, opener_words, plug_words, fit, plug_fit, opener_joins, plug_joins}
 use Rattle.cfi_valid.proofs.example.LoadPolicy.{may_call, may_return}
-use Rattle.cfi_verify.specs.Faults.{IsVerified}
+use Rattle.cfi_verify.specs.Fault.{IsVerified}
 use Rattle.cfi_word.specs.declared.limits.TheConstants.{MIN_CODE_WORDS}
 use Rattle.cfi_word.specs.declared.map.TheConstants.{FIRST_BASE}
 use Rattle.cfi_valid.proofs.example.LoadJournal.{loaded}

@@ -10,7 +10,7 @@ use Rattle.cfi_verify.specs.Branches.{NamesSlot, KindFits, EntriesFit}
 use Rattle.cfi_verify.specs.Spots.{checks_of}
 use Rattle.cfi_verify.specs.Functions.{FitsBehind, EndsWell}
 use Rattle.cfi_verify.specs.Target.{MayLead}
-use Rattle.cfi_verify.specs.Faults.{IsVerified}
+use Rattle.cfi_verify.specs.Fault.{IsVerified}
 use Rattle.cfi_valid.proofs.EachLemmas.{each_of, each_numbered, most_by}
 use Rattle.cfi_valid.proofs.example.TablePlaced.{lib_placed, main_units, main_fit, start, main_placed, plug_units, plug_fit, plus60, plug_placed}
 

@@ -7,10 +7,10 @@ use Rattle.cfi_aux.specs.declared.placed.Placed.{Placed}
 use Rattle.cfi_flow.proofs.Members.{member_cases, member_of_one}
 use Rattle.cfi_graph.specs.Shaped.{Follows}
 use Rattle.cfi_policy.specs.Code.{IsCodeOf}
-use Rattle.cfi_series.specs.Loaded.{IsVerifiedAmong, AreLoaded}
-use Rattle.cfi_series.proofs.LoadedLemmas.{begins}
-use Rattle.cfi_series.specs.Order.{Joins}
-use Rattle.cfi_verify.specs.Faults.{IsVerified}
+use Rattle.cfi_modules.specs.Loaded.{IsVerifiedAmong, AreLoaded}
+use Rattle.cfi_modules.proofs.LoadedLemmas.{begins}
+use Rattle.cfi_modules.specs.Order.{Joins}
+use Rattle.cfi_verify.specs.Fault.{IsVerified}
 use Rattle.cfi_valid.specs.Joining.{HasNoFault}
 use Rattle.cfi_valid.specs.Journal.{JournalState, IsOpeningState, EntriesLead}
 use Rattle.cfi_valid.specs.Loaded.{LoadedModule, IsLoaded}

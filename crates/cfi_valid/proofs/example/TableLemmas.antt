@@ -5,7 +5,7 @@ use Rattle.std.specs.List.{slice_get}
 use Rattle.cfi_aux.specs.declared.placed.Placed.{Placed}
 use Rattle.cfi_aux.specs.declared.placed.PlacedFunction.{PlacedFunction}
 use Rattle.cfi_report.specs.declared.report.GuestPart.{GuestPart}
-use Rattle.cfi_series.specs.Entry.{IsGlobalOf, HasNoneOf, IsEntryIn}
+use Rattle.cfi_modules.specs.Entry.{IsGlobalOf, HasNoneOf, IsEntryIn}
 use Rattle.cfi_unit.specs.declared.log.Log.{Log}
 use Rattle.cfi_unit.specs.declared.log.Log.TheVariants.{Pick, Open, Cause}
 use Rattle.cfi_valid.specs.Course.{Course}

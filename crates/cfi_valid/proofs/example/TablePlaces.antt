@@ -11,7 +11,7 @@ use Rattle.rv_reloc.specs.Form.{with_number}
 use Rattle.rv_reloc.specs.Table.{rule_of}
 use Rattle.cfi_place.specs.Relocated.{areas_of, relocated_from}
 use Rattle.cfi_place.specs.Slots.{ReadFrom}
-use Rattle.cfi_series.specs.Order.{IsPlacedBehind}
+use Rattle.cfi_modules.specs.Order.{IsPlacedBehind}
 use Rattle.cfi_unit.specs.declared.unit.Unit.{Unit as CodeUnit}
 use Rattle.cfi_unit.specs.declared.unit.Unit.TheVariants.{Plain, Load, Jump, Check, Service}
 use Rattle.cfi_unit.proofs.CodeLemmas.{BeginsAt-within}

@@ -11,7 +11,7 @@ use Rattle.cfi_verify.specs.Functions.{FitsBehind, IsIdleBehind}
 use Rattle.cfi_aux.specs.Extent.{end_of, LiesIn, DoNotOverlap}
 use Rattle.cfi_verify.specs.Target.{entries_of}
 use Rattle.cfi_verify.specs.Branches.{KindFits}
-use Rattle.cfi_verify.specs.Faults.{check_place}
+use Rattle.cfi_verify.specs.Fault.{check_place}
 
 -- each unit begins after those before it
 abbrev pub AreRising : List Spot → Type 0

@@ -1,7 +1,7 @@
 use Rattle.std.proofs.lemmas.Result.{err_from_is_err_and}
 use Rattle.std.proofs.Common.{◌+◌, rules}
 use Rattle.cfi_aux.specs.Reading.{each}
-use Rattle.cfi_aux.specs.Faults.{branch_at}
+use Rattle.cfi_aux.specs.Fault.{branch_at}
 use Rattle.cfi_aux.proofs.Each.{each_begins, each_go_on, each_ends, each_done}
 use Rattle.cfi_aux.proofs.branch.branches_from.Goals as goal
 

@@ -1,6 +1,6 @@
 use Rattle.std.proofs.Common.{◌≡◌, ◌-◌}
 use Rattle.cfi_aux.specs.Reading.{each}
-use Rattle.cfi_aux.specs.Faults.{branch_at}
+use Rattle.cfi_aux.specs.Fault.{branch_at}
 use Rattle.cfi_type_table.proofs.Parts.{with_front}
 use Rattle.cfi_aux.proofs.branch.branches_from.Given as goal
 

@@ -1,6 +1,6 @@
 use Rattle.std.proofs.Common.{◌≡◌, ◌-◌}
 use Rattle.cfi_aux.specs.Reading.{each}
-use Rattle.cfi_aux.specs.Faults.{place_at}
+use Rattle.cfi_aux.specs.Fault.{place_at}
 use Rattle.cfi_type_table.proofs.Parts.{with_front}
 use Rattle.cfi_aux.proofs.branch.places_from.Given as goal
 

@@ -1,6 +1,6 @@
 use Rattle.std.proofs.lemmas.Result.{err_from_is_err_and}
 use Rattle.cfi_aux.specs.Reading.{each}
-use Rattle.cfi_aux.specs.Faults.{function_at}
+use Rattle.cfi_aux.specs.Fault.{function_at}
 use Rattle.cfi_aux.proofs.Each.{each_go_on, each_ends, each_done}
 use Rattle.cfi_aux.proofs.function.functions_from.Goals as goal
 

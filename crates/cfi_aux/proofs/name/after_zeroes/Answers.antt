@@ -1,4 +1,4 @@
-use Rattle.cfi_aux.specs.Faults.{zeroes_at}
+use Rattle.cfi_aux.specs.Fault.{zeroes_at}
 use Rattle.cfi_aux.proofs.Zeroes.{zeroes_go_on, zeroes_short, zeroes_bad, zeroes_done}
 use Rattle.cfi_aux.proofs.name.after_zeroes.Goals as goal
 

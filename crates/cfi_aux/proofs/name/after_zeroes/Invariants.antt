@@ -1,5 +1,5 @@
 use Rattle.std.proofs.Common.{◌≡◌, ◌-◌}
-use Rattle.cfi_aux.specs.Faults.{zeroes_at}
+use Rattle.cfi_aux.specs.Fault.{zeroes_at}
 use Rattle.cfi_aux.proofs.name.after_zeroes.Given as goal
 
 -- what is left gives what all gives

@@ -2,7 +2,7 @@ use Rattle.std.proofs.Common.{◌++◌, List, [], ◌∷◌, length, ap, sym, �
 use Rattle.std.specs.Vec.Iter.{into_iter_items}
 use Rattle.cfi_aux.specs.declared.modules.Module.{Module}
 use Rattle.cfi_aux.specs.declared.placed.Placed.{Placed}
-use Rattle.cfi_series.specs.Series.{Series}
+use Rattle.cfi_modules.specs.Series.{Series}
 use Rattle.cfi_commands.proofs.FileLemmas.{order_more, series_fault}
 use Rattle.cfi_commands.proofs.files.place_all.Goals as goal
 

@@ -1,6 +1,6 @@
 use Rattle.std.proofs.Common.{◌≡◌, ◌++◌}
 use Rattle.std.specs.Vec.Iter.{into_iter_items}
-use Rattle.cfi_series.specs.Order.{AreInOrder}
+use Rattle.cfi_modules.specs.Order.{AreInOrder}
 use Rattle.cfi_commands.proofs.files.place_all.Given as goal
 
 -- the modules so far are placed in order, and the others are still to come

@@ -1,7 +1,7 @@
 use Rattle.std.proofs.Common.{rules, refl, ap, inl, Ok}
 use Rattle.std.specs.Prelude.{◌≢◌}
 use Rattle.cfi_aux.specs.declared.fault.AuxFault.TheVariants.{Memory}
-use Rattle.cfi_aux.specs.Module.{parts_in}
+use Rattle.cfi_aux.specs.Modules.{parts_in}
 use Rattle.cfi_commands.proofs.ReadingLemmas.{due_of, found_is_it, refused_is_none}
 use Rattle.cfi_commands.proofs.reading.read_module.Goals as goal
 

@@ -1,6 +1,6 @@
 use Rattle.std.proofs.Common.{ℕ, ◌<◌}
 use Rattle.std.specs.List.{slice_get}
-use Rattle.cfi_drive.specs.Concluded.{IsEndedRun}
+use Rattle.cfi_guest_run.specs.Concluded.{IsEndedRun}
 use Rattle.cfi_engine.proofs.guests.have_stopped.Given as goal
 
 -- those before this one have stopped

@@ -1,7 +1,7 @@
 use Rattle.std.proofs.Common.{rules, arith, All, Some, ◌≡◌, ◌+◌, sym, ap, subst, ◌∙◌}
 use Rattle.std.specs.List.{slice_get}
 use Rattle.std.proofs.lemmas.Result.{IfOk-at_ok}
-use Rattle.cfi_drive.specs.Runner.{IsOpening, Ran}
+use Rattle.cfi_guest_run.specs.Runner.{IsOpening, Ran}
 use Rattle.cfi_loader.specs.Passes.{with_keeping}
 use Rattle.cfi_model.specs.Data.{LiesInData}
 use Rattle.cfi_model.specs.Raw.{Raw}

@@ -1,7 +1,7 @@
 use Rattle.std.proofs.Common.{ℕ, List, refl, sym, subst}
 use Rattle.std.specs.List.{slice_get}
-use Rattle.cfi_drive.specs.Concluded.{IsEndedRun}
-use Rattle.cfi_drive.specs.Runner.{Ran}
+use Rattle.cfi_guest_run.specs.Concluded.{IsEndedRun}
+use Rattle.cfi_guest_run.specs.Runner.{Ran}
 use Rattle.cfi_engine.specs.inner.Guests.{AreOver}
 use Rattle.cfi_engine.proofs.run.finish.Goals as goal
 

@@ -1,5 +1,5 @@
 use Rattle.std.proofs.Common.{◌≡◌, ◌+◌, ◌≤◌, ◌^◌, length, ap, arith, rules}
-use Rattle.cfi_gen.specs.Measured.{branches_in}
+use Rattle.cfi_gen.specs.Measure.{branches_in}
 use Rattle.cfi_gen.proofs.MeasureLemmas.{branches_last, branches_fit}
 use Rattle.cfi_gen.proofs.measure.branches_of.Goals as goal
 

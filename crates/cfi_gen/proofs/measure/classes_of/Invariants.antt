@@ -1,6 +1,6 @@
 use Rattle.std.proofs.Common.{◌≡◌, take}
 use Rattle.std.specs.Prelude.{count_by}
-use Rattle.cfi_gen.specs.Measured.{has_targets}
+use Rattle.cfi_gen.specs.Measure.{has_targets}
 use Rattle.cfi_gen.proofs.measure.classes_of.Given as goal
 
 -- those so far

@@ -4,7 +4,7 @@ use Rattle.std.specs.List.{flat_map}
 use Rattle.cfi_word.specs.declared.limits.TheConstants.{MAX_CODE_WORDS}
 use Rattle.cfi_flow.specs.Flow.{AreBelow, IsSound, link_count}
 use Rattle.cfi_types.specs.Classes.{AreClasses}
-use Rattle.cfi_fits.specs.Widenings.{AreWidenings}
+use Rattle.cfi_fits.specs.Widening.{AreWidenings}
 use Rattle.cfi_graph.specs.Facts.{AreFacts}
 use Rattle.cfi_graph.specs.Reading.{tables_of}
 use Rattle.cfi_graph.specs.Edges.{told_most, links_most}

@@ -3,7 +3,7 @@ use Rattle.std.proofs.lemmas.List.Elements.{All-contains, Contains-push}
 use Rattle.cfi_word.specs.declared.limits.TheConstants.{MAX_CODE_WORDS}
 use Rattle.cfi_flow.specs.Flow.{AreBelow}
 use Rattle.cfi_types.specs.Classes.{AreClasses}
-use Rattle.cfi_fits.specs.Widenings.{AreWidenings}
+use Rattle.cfi_fits.specs.Widening.{AreWidenings}
 use Rattle.cfi_graph.specs.Shaped.{IsShaped}
 use Rattle.cfi_graph.specs.Facts.{AreFacts}
 use Rattle.cfi_graph.specs.Reading.{tables_of}

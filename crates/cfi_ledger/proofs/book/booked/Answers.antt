@@ -1,5 +1,5 @@
 use Rattle.std.proofs.Common.{◌∙◌, [], ◌∷◌, length, length-append, sym, ap, subst, arith}
-use Rattle.cfi_series.specs.Series.{Series, without_last}
+use Rattle.cfi_modules.specs.Series.{Series, without_last}
 use Rattle.cfi_policy.specs.Book.{KeepsNumbers}
 use Rattle.cfi_ledger.specs.Roster.{IsBookOfSeries}
 use Rattle.cfi_ledger.proofs.BookLemmas.{series_back}

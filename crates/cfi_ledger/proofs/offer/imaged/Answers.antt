@@ -1,6 +1,6 @@
 use Rattle.std.proofs.Common.{subst}
-use Rattle.cfi_series.specs.Image.{IsOrderedImage}
-use Rattle.cfi_series.specs.Series.{Series}
+use Rattle.cfi_modules.specs.Image.{IsOrderedImage}
+use Rattle.cfi_modules.specs.Series.{Series}
 use Rattle.cfi_ledger.proofs.offer.imaged.Goals as goal
 
 pub returns-in-Ok-clause-ordered : goal.returns-in-Ok-clause-ordered

@@ -1,7 +1,7 @@
 use Rattle.std.proofs.Common.{◌≡◌, ◌∙◌, ◌+◌, ap, sym, take}
 use Rattle.cfi_link.specs.declared.limits.Sizes.{Sizes}
 use Rattle.cfi_link.specs.Joined.{Joined, joined_of, with_module}
-use Rattle.cfi_link.specs.Faults.{sizes_of}
+use Rattle.cfi_link.specs.Fault.{sizes_of}
 use Rattle.cfi_link.specs.inner.Capped.{capped_sizes, with_sizes}
 use Rattle.cfi_link.proofs.JoinedLemmas.{joined-more}
 use Rattle.cfi_link.proofs.LimitLemmas.{sizes-more}

@@ -1,6 +1,6 @@
 use Rattle.std.proofs.Common.{◌≡◌, take}
 use Rattle.cfi_link.specs.Joined.{joined_of}
-use Rattle.cfi_link.specs.Faults.{sizes_of}
+use Rattle.cfi_link.specs.Fault.{sizes_of}
 use Rattle.cfi_link.specs.inner.Capped.{capped_sizes}
 use Rattle.cfi_link.proofs.limits.sizes_of.Given as goal
 

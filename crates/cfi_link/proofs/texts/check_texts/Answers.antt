@@ -5,7 +5,7 @@ use Rattle.std.proofs.lemmas.List.Elements.{All-more}
 use Rattle.cfi_aux.specs.declared.modules.Module.{Module}
 use Rattle.cfi_place.specs.Placed.{bytes_as_words}
 use Rattle.cfi_place.proofs.PlacingLemmas.{length-words_in}
-use Rattle.cfi_link.specs.Faults.{has_text, HasUnits}
+use Rattle.cfi_link.specs.Fault.{has_text, HasUnits}
 use Rattle.cfi_unit.specs.Spots.{AreUnits, StopsAt}
 use Rattle.cfi_link.proofs.TextLemmas.{stray_at}
 use Rattle.cfi_link.proofs.texts.check_texts.Goals as goal

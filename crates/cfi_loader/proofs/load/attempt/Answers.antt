@@ -1,6 +1,6 @@
 use Rattle.std.proofs.Common.{◌+◌, ℕ, refl, ap, sym, subst, ◌∙◌, arith}
 use Rattle.cfi_model.specs.Tables.{IsUpdate}
-use Rattle.cfi_series.specs.Examples.{sized}
+use Rattle.cfi_modules.specs.Examples.{sized}
 use Rattle.cfi_tables.specs.Faults.{FaultIs}
 use Rattle.cfi_tables.specs.Keeping.{entry_by, grown_by, last_of}
 use Rattle.cfi_valid.specs.Script.{Load}
@@ -9,7 +9,7 @@ use Rattle.cfi_ledger.specs.declared.books.Books.{Books}
 use Rattle.cfi_loader.specs.declared.fault.LoadFault.{LoadFault}
 use Rattle.cfi_loader.specs.Told.{MayAskFor}
 use Rattle.cfi_loader.specs.inner.Books.{BooksAgree, ledger_of}
-use Rattle.cfi_ledger.specs.Findings.{AreFindings, DoesJoin}
+use Rattle.cfi_ledger.specs.Finding.{AreFindings, DoesJoin}
 use Rattle.cfi_ledger.specs.Loads.{IsAbsent, IsUnprepared}
 use Rattle.cfi_loader.specs.inner.Loads.{Refuses}
 use Rattle.cfi_loader.proofs.JoiningLemmas.{keeps_classes, made_answers, turned_down, unmade_refuses}

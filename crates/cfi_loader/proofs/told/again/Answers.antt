@@ -1,5 +1,5 @@
 use Rattle.std.proofs.Common.{true, refl, ap, subst, get_or}
-use Rattle.cfi_series.specs.Examples.{sized}
+use Rattle.cfi_modules.specs.Examples.{sized}
 use Rattle.cfi_ledger.specs.declared.books.Books.{Books}
 use Rattle.cfi_ledger.specs.Opens.{IsFirstGlobal}
 use Rattle.cfi_loader.proofs.AddLemmas.{again_answers}

@@ -5,7 +5,7 @@ use Rattle.cfi_word.specs.declared.limits.TheConstants.{MAX_CODE_WORDS}
 use Rattle.cfi_class.specs.Labels.{HasEdge, AreNumbers, AreOrderedBySlot}
 use Rattle.cfi_graph.specs.Direct.{DirectEdge}
 use Rattle.cfi_graph.specs.Edges.{SpanDirectEdges}
-use Rattle.cfi_policy.specs.Groups.{AreGroups}
+use Rattle.cfi_policy.specs.Group.{AreGroups}
 use Rattle.cfi_policy.specs.inner.Idle.{AreIdle}
 use Rattle.cfi_policy.proofs.EdgeLemmas.{within_code, spans}
 use Rattle.cfi_policy.proofs.OrderLemmas.{idle_group, groups_of_classes, groups_and_idle}

@@ -1,6 +1,6 @@
 use Rattle.std.proofs.Common.{◌≡◌, [], ◌∷◌, ◌++◌, All, sym, subst, rules}
 use Rattle.std.proofs.lemmas.List.Elements.{All-append, All-cons, All-nil}
-use Rattle.cfi_series.specs.Series.{CanBeTaken}
+use Rattle.cfi_modules.specs.Series.{CanBeTaken}
 use Rattle.cfi_threads.proofs.files.modules_of.Goals as goal
 
 -- so can one more

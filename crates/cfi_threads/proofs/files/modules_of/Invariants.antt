@@ -1,5 +1,5 @@
 use Rattle.std.proofs.Common.{All}
-use Rattle.cfi_series.specs.Series.{CanBeTaken}
+use Rattle.cfi_modules.specs.Series.{CanBeTaken}
 use Rattle.cfi_threads.proofs.files.modules_of.Given as goal
 
 -- the modules so far can be taken

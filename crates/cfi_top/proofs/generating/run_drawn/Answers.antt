@@ -1,7 +1,7 @@
 use Rattle.std.proofs.Common.{[], sym, subst}
 use Rattle.std.proofs.lemmas.Result.{IfOk-weaker}
 use Rattle.cfi_commands.specs.Files.{IsFilesFault}
-use Rattle.cfi_gen.specs.Measured.{IsMeasure}
+use Rattle.cfi_gen.specs.Measure.{IsMeasure}
 use Rattle.cfi_request.specs.declared.command.Command.TheVariants as commands
 use Rattle.cfi_top.specs.Outcome.{IsWorked}
 use Rattle.cfi_top.specs.Refused.{IsModuleRefused}

@@ -4,7 +4,7 @@ use Rattle.rv_insn.specs.declared.insn.Insn.TheVariants.{Lui}
 use Rattle.cfi_unit.specs.declared.unit.Unit.TheVariants.{Plain}
 use Rattle.cfi_unit.specs.declared.spot.Spot.{Spot}
 use Rattle.cfi_verify.specs.Target.{LeadsWell}
-use Rattle.cfi_verify.specs.Faults.{unit_place}
+use Rattle.cfi_verify.specs.Fault.{unit_place}
 use Rattle.cfi_verify.proofs.ListLemmas.{each_more, each_all, first_here}
 use Rattle.cfi_verify.proofs.target.first_stray.Goals as goal
 

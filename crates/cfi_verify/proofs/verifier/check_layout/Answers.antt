@@ -2,7 +2,7 @@ use Rattle.std.proofs.Common.{List, sym, subst}
 use Rattle.cfi_verify.specs.declared.checks.CheckSpot.{CheckSpot}
 use Rattle.elf_read.specs.Lists.{Each, IsFirstBreak}
 use Rattle.cfi_verify.specs.Branches.{NamesSlot}
-use Rattle.cfi_verify.specs.Faults.{check_place}
+use Rattle.cfi_verify.specs.Fault.{check_place}
 use Rattle.cfi_verify.specs.inner.Places.{AreSmallChecks, AreInRange}
 use Rattle.cfi_verify.proofs.SpotLemmas.{spots-rising, checks-small}
 use Rattle.cfi_verify.proofs.FunctionLemmas.{in_range}

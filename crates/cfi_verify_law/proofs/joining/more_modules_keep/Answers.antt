@@ -1,4 +1,4 @@
-use Rattle.cfi_series.proofs.GrowthLemmas.{code_kept}
+use Rattle.cfi_modules.proofs.GrowthLemmas.{code_kept}
 use Rattle.cfi_verify_law.proofs.StayLemmas.{starts_stay}
 use Rattle.cfi_verify_law.proofs.joining.more_modules_keep.Goals as goal
 

@@ -4,8 +4,8 @@ use Rattle.std.proofs.lemmas.Option.{slice_get_read}
 use Rattle.std.proofs.lemmas.Result.{IfOk-weaker, IfErr-weaker}
 use Rattle.cfi_aux.specs.declared.modules.Module.{Module}
 use Rattle.cfi_aux.specs.declared.placed.Placed.{Placed}
-use Rattle.cfi_series.specs.Order.{IsJoinFault, Joins}
-use Rattle.cfi_ledger.specs.Findings.{DoesJoin}
+use Rattle.cfi_modules.specs.Order.{IsJoinFault, Joins}
+use Rattle.cfi_ledger.specs.Finding.{DoesJoin}
 use Rattle.cfi_ledger.specs.Loads.{IsUnprepared}
 use Rattle.cfi_ledger.proofs.books.Books.joins.Goals as goal
 

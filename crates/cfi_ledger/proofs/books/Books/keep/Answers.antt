@@ -2,8 +2,8 @@ use Rattle.std.proofs.Common.{◌≡◌, List, get_or, Some, ap, sym, subst, ◌
 use Rattle.std.proofs.lemmas.Option.{get_or_from_slice_get}
 use Rattle.std.specs.List.{slice_get}
 use Rattle.cfi_aux.specs.declared.modules.Module.{Module}
-use Rattle.cfi_series.specs.Order.{IsJoinFault}
-use Rattle.cfi_ledger.specs.Findings.{JoinsBut}
+use Rattle.cfi_modules.specs.Order.{IsJoinFault}
+use Rattle.cfi_ledger.specs.Finding.{JoinsBut}
 use Rattle.cfi_ledger.proofs.FindingLemmas.{noted_now}
 use Rattle.cfi_ledger.proofs.books.Books.keep.Goals as goal
 

@@ -1,7 +1,7 @@
 use Rattle.std.proofs.Common.{◌+◌, List, length, get_or, refl, sym, ap, subst, ◌∙◌, arith}
 use Rattle.std.proofs.lemmas.Option.{slice_get_read}
 use Rattle.cfi_aux.specs.declared.modules.Module.{Module}
-use Rattle.cfi_series.specs.Order.{IsJoinFault}
+use Rattle.cfi_modules.specs.Order.{IsJoinFault}
 use Rattle.cfi_valid.specs.Loaded.{planned_name}
 use Rattle.cfi_ledger.specs.Roster.{HasJoined, IsBookOfRoster, Roster}
 use Rattle.cfi_ledger.proofs.JoinedLemmas.{entrant_joined}

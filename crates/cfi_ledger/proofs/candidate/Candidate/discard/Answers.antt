@@ -1,7 +1,7 @@
 use Rattle.std.proofs.Common.{List, length, ap, sym, refl, ◌∙◌}
 use Rattle.cfi_aux.specs.declared.placed.Placed.{Placed}
-use Rattle.cfi_series.specs.Fills.{fills_of}
-use Rattle.cfi_series.specs.Series.{Series}
+use Rattle.cfi_modules.specs.Fills.{fills_of}
+use Rattle.cfi_modules.specs.Series.{Series}
 use Rattle.cfi_ledger.proofs.RosterLemmas.{init_listed, init_fills}
 use Rattle.cfi_ledger.proofs.candidate.Candidate.discard.Goals as goal
 

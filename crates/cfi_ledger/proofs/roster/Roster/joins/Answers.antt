@@ -1,7 +1,7 @@
 use Rattle.std.proofs.Common.{subst}
 use Rattle.std.proofs.lemmas.Result.{IfOk-weaker}
 use Rattle.cfi_aux.specs.declared.placed.Placed.{Placed}
-use Rattle.cfi_series.specs.Order.{Joins}
+use Rattle.cfi_modules.specs.Order.{Joins}
 use Rattle.cfi_ledger.specs.Roster.{Roster}
 use Rattle.cfi_ledger.proofs.roster.Roster.joins.Goals as goal
 

@@ -1,6 +1,6 @@
 use Rattle.std.proofs.Common.{◌≡◌, length, ap, sym, subst, ◌∙◌}
-use Rattle.cfi_series.specs.Fills.{fills_of}
-use Rattle.cfi_series.specs.Series.{Series}
+use Rattle.cfi_modules.specs.Fills.{fills_of}
+use Rattle.cfi_modules.specs.Series.{Series}
 use Rattle.cfi_ledger.specs.Roster.{line_by}
 use Rattle.cfi_ledger.proofs.JoinedLemmas.{offered_order, roster_offered}
 use Rattle.cfi_ledger.proofs.roster.Roster.offer.Goals as goal

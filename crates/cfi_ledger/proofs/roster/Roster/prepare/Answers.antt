@@ -2,7 +2,7 @@ use Rattle.std.proofs.Common.{◌≡◌, List, [], ◌∷◌, ◌++◌, length, 
 use Rattle.std.proofs.lemmas.List.{get_or_push}
 use Rattle.cfi_aux.specs.declared.placed.Placed.{Placed}
 use Rattle.cfi_plan.specs.declared.journal.ModuleLine.{ModuleLine}
-use Rattle.cfi_series.specs.Series.{Series}
+use Rattle.cfi_modules.specs.Series.{Series}
 use Rattle.cfi_ledger.specs.Roster.{Roster, IsBookOfSeries, HasJoined, line_by, series_of}
 use Rattle.cfi_ledger.proofs.JoinedLemmas.{roster_back, roster_joined}
 use Rattle.cfi_ledger.proofs.roster.Roster.prepare.Goals as goal

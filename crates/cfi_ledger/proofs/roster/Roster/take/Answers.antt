@@ -1,6 +1,6 @@
 use Rattle.std.proofs.Common.{ap, sym, subst}
 use Rattle.cfi_aux.specs.declared.placed.Placed.{Placed}
-use Rattle.cfi_series.specs.Series.{CanRejoin}
+use Rattle.cfi_modules.specs.Series.{CanRejoin}
 use Rattle.cfi_ledger.specs.Roster.{Offer, Roster, roster_of, series_of}
 use Rattle.cfi_ledger.proofs.roster.Roster.take.Goals as goal
 

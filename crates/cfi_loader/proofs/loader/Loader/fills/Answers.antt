@@ -1,5 +1,5 @@
 use Rattle.std.proofs.Common.{ap, sym, ◌∙◌}
-use Rattle.cfi_series.specs.Fills.{fills_of}
+use Rattle.cfi_modules.specs.Fills.{fills_of}
 use Rattle.cfi_valid.specs.Loaded.{placed_modules}
 use Rattle.cfi_loader.specs.Ledger.{Ledger}
 use Rattle.cfi_loader.proofs.LoadLemmas.{places}

@@ -5,7 +5,7 @@ use Rattle.cfi_model.specs.Data.{LiesInData}
 use Rattle.cfi_model.specs.Log.{last_policy}
 use Rattle.cfi_model.specs.Run.{serve_of}
 use Rattle.cfi_model.specs.Service.{Reply}
-use Rattle.cfi_series.specs.Fills.{fills_of}
+use Rattle.cfi_modules.specs.Fills.{fills_of}
 use Rattle.cfi_unit.specs.declared.fill.Fill.{Fill}
 use Rattle.cfi_unit.specs.declared.log.Log.{Log}
 use Rattle.cfi_valid.specs.Replay.{given_by}

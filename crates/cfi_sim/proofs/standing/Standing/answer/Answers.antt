@@ -6,9 +6,9 @@ use Rattle.cfi_ledger.specs.Policies.{HavePolicies}
 use Rattle.cfi_model.specs.Data.{LiesInData}
 use Rattle.cfi_model.specs.Raw.{Raw}
 use Rattle.cfi_model.specs.Words.{policy_in_force}
-use Rattle.cfi_series.specs.Fills.{fills_of}
-use Rattle.cfi_series.specs.Series.{IsSeries}
-use Rattle.cfi_series.proofs.PrefixLemmas.{data_lies}
+use Rattle.cfi_modules.specs.Fills.{fills_of}
+use Rattle.cfi_modules.specs.Series.{IsSeries}
+use Rattle.cfi_modules.proofs.PrefixLemmas.{data_lies}
 use Rattle.cfi_plan.specs.declared.journal.ModuleLine.{ModuleLine}
 use Rattle.cfi_sim.specs.Agrees.{NumbersAreApart}
 use Rattle.cfi_sim.specs.Events.{found_reply}

@@ -1,0 +1,179 @@
+-- A runner after the answer to an open of a module of the plan.
+use Rattle.std.proofs.Common.{◌≡◌, ◌≢◌, ◌≤◌, ◌<◌, ℕ, Option, Some, None, All, List, [], ◌∷◌, ◌++◌, refl, sym, ap, subst, ◌∙◌, arith}
+use Rattle.std.proofs.lemmas.List.Elements.{All-drop, All-nil}
+use Rattle.cfi_aux.specs.declared.modules.Module.{Module}
+use Rattle.cfi_loader.specs.Ledger.{Ledger, IsLedger}
+use Rattle.cfi_loader.specs.Passes.{reply_with}
+use Rattle.cfi_ledger.specs.Opens.{IsAddressOf}
+use Rattle.cfi_ledger.specs.Journal.{asked_by}
+use Rattle.cfi_loader.specs.Told.{HasTold}
+use Rattle.cfi_ledger.proofs.DueLemmas.{later_fills}
+use Rattle.cfi_ledger.proofs.PolicyLemmas.{policies_below}
+use Rattle.cfi_model.specs.declared.act.Wait.TheVariants as waits
+use Rattle.cfi_model.specs.Data.{LiesInData}
+use Rattle.cfi_model.specs.Log.{last_policy, opens}
+use Rattle.cfi_model.specs.Raw.{Raw}
+use Rattle.cfi_model.specs.Run.{Served, serve_as, serve_of}
+use Rattle.cfi_model.specs.Service.{Reply, argument, reply_of}
+use Rattle.cfi_plan.specs.declared.journal.Entry.{Entry}
+use Rattle.cfi_plan.specs.declared.journal.JournalLine.{JournalLine}
+use Rattle.cfi_plan.specs.declared.journal.Who.TheVariants.{Guest}
+use Rattle.cfi_plan.specs.declared.plan.Plan.{Plan}
+use Rattle.cfi_runner.specs.Laws.{MayServe}
+use Rattle.cfi_modules.specs.Fills.{fills_of}
+use Rattle.cfi_aux.specs.Sound.{IsSoundModule}
+use Rattle.cfi_modules.proofs.PrefixLemmas.{data_lies}
+use Rattle.cfi_tables.specs.Key.{Key}
+use Rattle.cfi_tables.specs.Views.{noted}
+use Rattle.cfi_tables.specs.declared.view.PassView.{PassView}
+use Rattle.cfi_unit.specs.declared.log.Log.{Log}
+use Rattle.cfi_unit.specs.declared.log.Log.TheVariants.{Open, Cause}
+use Rattle.cfi_valid.specs.Course.{Course}
+use Rattle.cfi_valid.specs.Growth.{Continues, FitsEntry, IsLater}
+use Rattle.cfi_valid.specs.Loaded.{fills_between, placed_modules}
+use Rattle.cfi_valid.specs.Log.{IsLogged}
+use Rattle.cfi_valid.specs.Replay.{given_by}
+use Rattle.cfi_valid.proofs.EntryGrowth.{log_grows}
+use Rattle.cfi_valid.proofs.GrowthLemmas.{along_later}
+use Rattle.cfi_valid.proofs.SeriesLemmas.{journal_series}
+use Rattle.cfi_word.specs.declared.limits.TheConstants.{MAX_OPENS, MAX_POLICY}
+use Rattle.cfi_word.specs.declared.services.TheConstants.{NO_FUNCTION, OPEN, TOO_MANY}
+use Rattle.cfi_guest_run.specs.Path.{IsDueWith}
+use Rattle.cfi_guest_run.specs.Runner.{HasAsked, IsRunnerBy, IsServed, SeesOn}
+use Rattle.cfi_guest_run.specs.Serving.{IsPassTold}
+use Rattle.cfi_guest_run.proofs.CauseLemmas.{fits_no_function, fits_open}
+use Rattle.cfi_guest_run.proofs.NoteLemmas.{told_fits, told_policy, told_settled}
+use Rattle.cfi_guest_run.proofs.SeesLemmas.{on_noted}
+use Rattle.cfi_guest_run.proofs.ServeLemmas.{runner_served}
+
+-- what a ledger's modules bring lies in private data
+module _ (k : Key) (plan : Plan) (modules : List Module) (l : Ledger) (is : IsLedger k plan modules l) where
+  pub policy_fits : l.course.end.policy ≤ MAX_POLICY
+  policy_fits = omega (arith, is.policies.count, is.policies.most)
+
+  pub fills_lie : (given : ℕ) → All LiesInData (fills_between given l.course.end.policy l.course.end.loaded)
+  fills_lie given =
+      let sound : All IsSoundModule l.course.modules = λ at d within. (is.can_start.taken at d within).sound in
+      let series = journal_series l.course.plan l.course.modules l.course.journal l.course.end is.can_start.code_words
+      sound is.course in
+      subst (All LiesInData) (sym (later_fills l.course.plan l.course.end is.policies given))
+      (All-drop LiesInData _ (fills_of (placed_modules l.course.end.loaded))
+      (data_lies l.course.plan.code_words (placed_modules l.course.end.loaded) series))
+
+-- what an answer makes of the log
+pub served_log_is : (r : Raw) (reply : Reply) → r.waits ≡ Some (waits.Service OPEN)
+    → (serve_of r reply).base.log ≡ (serve_as (Some (waits.Service OPEN)) r reply).base.log
+served_log_is r reply wait = ap (λ w. (serve_as w r reply).base.log) wait
+
+module _ (k : Key) (plan : Plan) (modules : List Module) (p : PassView) (r : Raw) (first : Ledger)
+    (at : IsRunnerBy k plan modules p r first) (asked : HasAsked k plan.fuel p r OPEN)
+    (few : opens r.base.log < MAX_OPENS) (logged : IsLogged first.course p.guest r.base.log) (line : JournalLine)
+    (l : Ledger) (told : HasTold k (asked_by (Guest p.guest) line) first l) (is : IsLedger k plan modules l)
+    (note : IsPassTold k plan modules l p (noted k l.keeping p)) where
+  abbrev n : PassView
+  n = noted k l.keeping p
+
+  abbrev entry : Entry
+  entry = asked_by (Guest p.guest) line
+
+  abbrev old : Course
+  old = first.course
+
+  abbrev new : Course
+  new = record { plan = old.plan; modules = old.modules; journal = old.journal ++ entry ∷ []; end = l.course.end }
+
+  goes : Continues old new
+  goes = record {
+    plan = refl;
+    modules = refl;
+    more = entry ∷ [];
+    journal = refl;
+    leads = (l.course.end, told.course.leads, refl);
+  }
+
+  pub later : IsLater old.end l.course.end
+  later = along_later old.plan old.modules old.end l.course.end (entry ∷ []) (l.course.end, told.course.leads, refl)
+
+  wait : r.waits ≡ Some (waits.Service OPEN)
+  wait = ap (λ x. x.waits) asked.run.pauses.0 ∙ asked.run.pauses.1
+
+  on : SeesOn k p n
+  on = on_noted k l.keeping p is.told.tables note.agrees asked.sees.sees.is
+
+  -- the log with the entry of the answer fits the run
+  logged_more : (one : Log) → FitsEntry old new p.guest r.base.log one
+      → IsLogged l.course p.guest (r.base.log ++ one ∷ [])
+  logged_more one fits =
+      subst (λ (z : (Plan × List Module) × List Entry). IsLogged
+      (record { plan = z.0.0; modules = z.0.1; journal = z.1; end = l.course.end }) p.guest (r.base.log ++ one ∷ []))
+      (λ i. ((sym told.course.plan_is i, sym told.course.modules_are i), sym told.course.journal_is i))
+      (log_grows old new goes p.guest r.base.log logged one fits)
+
+  -- the guest goes on with the answer
+  answered : (one : Log) (reply : Reply) → (serve_of r reply).base.log ≡ r.base.log ++ one ∷ []
+      → FitsEntry old new p.guest r.base.log one → MayServe k n.sight OPEN reply r
+      → IsDueWith l.course.end r (Served reply) → IsServed k plan modules n (serve_of r reply)
+  answered one reply is_log fits may due = (
+    l,
+    runner_served k plan modules p n r OPEN asked on first l at (told_settled k plan modules l p is) later reply may due
+        (told_fits k plan modules l p is p.guest (serve_of r reply).base.log
+        (subst (IsLogged l.course p.guest) (sym is_log) (logged_more one fits))),
+  )
+
+  -- ---- a refusal
+
+  pub refused : (cause : ℕ) → cause ≢ 0 → cause ≢ TOO_MANY
+      → (serve_of r (reply_of 0 cause l.course.end.policy [])).base.log
+      ≡ r.base.log ++ Cause (argument r.base) cause ∷ []
+      → FitsEntry old new p.guest r.base.log (Cause (argument r.base) cause)
+      → IsServed k plan modules n (serve_of r (reply_of 0 cause l.course.end.policy []))
+  refused cause some known is_log fits =
+      answered (Cause (argument r.base) cause) (reply_of 0 cause l.course.end.policy []) is_log fits (record {
+        fits = λ asks. record {
+          answer = record {
+            inside = All-nil LiesInData;
+            few = λ any. few;
+            rises = λ free. absurd (some free);
+            most = λ free. absurd (some free);
+          };
+          exact = λ any. known;
+        };
+        known = λ free. absurd (some free);
+      }) (λ free. absurd (some free))
+
+  -- ---- a module that is loaded
+
+  pub opened : (address : ℕ) → IsAddressOf l.course.end.loaded (argument r.base) (Some address)
+      → IsServed k plan modules n (serve_of r (reply_with l r.base.log (Some address)))
+  opened address has =
+      let reply = reply_with l r.base.log (Some address) in
+      let rises : last_policy r.base.log ≤ l.course.end.policy = omega (arith, logged.most, later.policy) in
+      answered (Open (argument r.base) address l.course.end.policy) reply (served_log_is r reply wait)
+      (fits_open old p.guest r.base.log logged l.course.end later.policy
+      (policies_below l.course.plan l.course.end is.policies) (argument r.base) 0 entry address has)
+      (record {
+        fits = λ asks. record {
+          answer = record {
+            inside = fills_lie k plan modules l is (given_by r.base.log);
+            few = λ any. few;
+            rises = λ free. rises;
+            most = λ free. policy_fits k plan modules l is;
+          };
+          exact = λ any same. absurd (omega (arith, same));
+        };
+        known = λ free. omega (arith, told_policy k plan modules l p is);
+      })
+      (λ free. record { most = omega arith; fills = refl })
+
+  pub opened_none : IsAddressOf l.course.end.loaded (argument r.base) None
+      → IsServed k plan modules n (serve_of r (reply_with l r.base.log None))
+  opened_none none =
+      refused NO_FUNCTION (λ e. absurd (omega (arith, e))) (λ e. absurd (omega (arith, e)))
+      (served_log_is r (reply_of 0 NO_FUNCTION l.course.end.policy []) wait)
+      (fits_no_function old p.guest r.base.log logged l.course.end later.policy
+      (policies_below l.course.plan l.course.end is.policies) (argument r.base) NO_FUNCTION entry none refl)
+
+  pub given : (found : Option ℕ) → IsAddressOf l.course.end.loaded (argument r.base) found
+      → IsServed k plan modules n (serve_of r (reply_with l r.base.log found))
+  given None has = opened_none has
+  given (Some address) has = opened address has

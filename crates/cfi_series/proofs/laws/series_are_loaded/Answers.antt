@@ -1,5 +1,0 @@
-use Rattle.cfi_series.proofs.GraphLemmas.{are_loaded}
-use Rattle.cfi_series.proofs.laws.series_are_loaded.Goals as goal
-
-pub returns : goal.returns
-returns c = are_loaded

@@ -1,5 +1,0 @@
-use Rattle.cfi_series.proofs.OneLemmas.{one}
-use Rattle.cfi_series.proofs.laws.some_modules_are_loaded.Goals as goal
-
-pub returns : goal.returns
-returns c = one

@@ -1,6 +1,0 @@
-use Rattle.std.proofs.Common.{refl}
-use Rattle.cfi_series.proofs.TwoLemmas.{modules, two, growth, is_growth, has_numbers}
-use Rattle.cfi_series.proofs.laws.some_modules_make_a_history.Goals as goal
-
-pub returns : goal.returns
-returns c = (modules, growth, two, is_growth, has_numbers, refl, refl)
