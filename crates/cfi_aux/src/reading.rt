@@ -7,9 +7,7 @@ ghost use Rattle.cfi_aux.specs.Modules.{SpellsWithin};
 ghost use Rattle.cfi_aux.specs.Reading.{ReadingGives};
 ghost use Rattle.cfi_aux.specs.Fault.{records_at, records_within, records_in};
 
-use crate::branch::branches_from;
 use crate::fault::AuxFault;
-use crate::function::functions_from;
 use crate::records::Records;
 use crate::version::RecordVersion;
 use crate::word::{count_from, version_from};
@@ -18,34 +16,35 @@ use cfi_values::Items;
 use cfi_word::limits::{MAX_BRANCHES, MAX_FUNCTIONS};
 use std::alloc::Global;
 
-#[tactic(auto, unfolding(crate::specs::Faults::records_at, crate::specs::Reading::seen_as, crate::specs::Reading::and_with, crate::specs::Reading::and_also))]
-fn records_from<'a>(
-    alloc: Global,
-    version: RecordVersion,
-    types: &TypeTable,
-    size: Option<usize>,
-    bytes: &'a [u8],
-) -> Result<(Records, &'a [u8]), AuxFault>
-    ensures { ReadingGives (λ x. (x.0, x.1.now)) result
-        (records_at version types.now size bytes.now) }
-{
-    let (function_count, rest) = count_from(MAX_FUNCTIONS, bytes)?;
-    let (branch_count, rest) = count_from(MAX_BRANCHES, rest)?;
-    let (functions, rest) = functions_from(alloc, version, types, function_count, rest)?;
-    let (branches, rest) = branches_from(
-        alloc,
-        version,
-        types,
-        size,
-        function_count,
-        branch_count,
-        rest,
-    )?;
-    let records = Records {
-        functions: Items::from_vec(functions),
-        branches: Items::from_vec(branches),
-    };
-    Ok((records, rest))
+/// Reads records of one version.
+#[derive(Drop)]
+pub struct RecordReader<'a> {
+    /// The heap on which it keeps what it reads.
+    pub alloc: Global,
+    /// The version of the records.
+    pub version: RecordVersion,
+    /// The types that they name nodes of.
+    pub types: &'a TypeTable,
+    /// How many bytes of data the module has, where that is known.
+    pub size: Option<usize>,
+}
+
+impl<'a> RecordReader<'a> {
+    #[tactic(auto, unfolding(crate::specs::Faults::records_at, crate::specs::Reading::seen_as, crate::specs::Reading::and_with, crate::specs::Reading::and_also))]
+    fn records_from<'b>(&self, bytes: &'b [u8]) -> Result<(Records, &'b [u8]), AuxFault>
+        ensures { ReadingGives (λ x. (x.0, x.1.now)) result
+            (records_at self.now.version self.now.types.now self.now.size bytes.now) }
+    {
+        let (function_count, rest) = count_from(MAX_FUNCTIONS, bytes)?;
+        let (branch_count, rest) = count_from(MAX_BRANCHES, rest)?;
+        let (functions, rest) = self.functions_from(function_count, rest)?;
+        let (branches, rest) = self.branches_from(function_count, branch_count, rest)?;
+        let records = Records {
+            functions: Items::from_vec(functions),
+            branches: Items::from_vec(branches),
+        };
+        Ok((records, rest))
+    }
 }
 
 #[tactic(auto, unfolding(crate::specs::Faults::records_within, crate::specs::Faults::whole_at, crate::specs::Reading::and_with))]
@@ -58,7 +57,13 @@ fn all_of(
     ensures { ReadingGives (λ records. records) result (records_within types.now size bytes.now) }
 {
     let (version, rest) = version_from(bytes)?;
-    let (records, rest) = records_from(alloc, version, types, size, rest)?;
+    let reader = RecordReader {
+        alloc,
+        version,
+        types,
+        size,
+    };
+    let (records, rest) = reader.records_from(rest)?;
     if !rest.is_empty() {
         return Err(AuxFault::Short);
     }

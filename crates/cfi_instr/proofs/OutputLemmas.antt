@@ -23,10 +23,11 @@ use Rattle.cfi_instr.specs.Fault.{input_of, IsInstrumentable}
 use Rattle.cfi_instr.proofs.RowTests.{PassesWords, good-words}
 use Rattle.cfi_instr.specs.declared.sizes.TheConstants.{MAX_WORDS}
 use Rattle.cfi_instr.specs.Sizes.{moved, words_before, offsets_of, AreSmall}
-use Rattle.cfi_instr.specs.Reach.{IsEnough, IsLeast}
+use Rattle.cfi_instr.specs.Reach.{IsLeast}
 use Rattle.cfi_instr.specs.Units.{units_at, units_of, AllSpell}
 use Rattle.cfi_instr.specs.Moves.{moved_symbol, moved_reloc, moved_function, moved_kind}
 use Rattle.cfi_instr.specs.Output.{IsLayout, IsText, AreMoved}
+use Rattle.cfi_instr.specs.inner.Arrangement.{Arrangement, units_by, AllSpellBy, moved_reloc_by, IsArrangementOf}
 use Rattle.cfi_instr.proofs.SpellLemmas.{all-spelled}
 use Rattle.cfi_unit.proofs.CodeLemmas.{AllByRecursion-append}
 
@@ -38,39 +39,41 @@ joined-all give zero all = tt
 joined-all give (suc n) all =
     AllByRecursion-append (joined give n) (give n) (joined-all give n (λ w lt. all w (omega arith))) (all n (omega arith))
 
-pub text-is : (m : Module) (t : Words) (long : List Bool) (offsets text : List ℕ) → read_words m.object ≡ t
-    → AllSpell t m.object.symbols long offsets
-    → text ≡ flat_map word (flat_map words_of (units_of t m.object.symbols long offsets)) → IsText m long offsets text
-text-is m t long offsets text same spell is =
-    let here : AllSpell (read_words m.object) m.object.symbols long offsets =
-    subst (λ (x : Words). AllSpell x m.object.symbols long offsets) (sym same) spell in
+pub text-is : (m : Module) (a : Arrangement) (text : List ℕ) → IsArrangementOf m a → AllSpellBy a
+    → text ≡ flat_map word (flat_map words_of (units_by a)) → IsText m a.long a.offsets text
+text-is m a text same spell is =
+    let t = read_words m.object in
+    let symbols = m.object.symbols in
+    let here : AllSpell t symbols a.long a.offsets =
+    subst (λ (x : Words). AllSpell x symbols a.long a.offsets) same.source
+    (subst (λ (ss : List Symbol). AllSpell a.source ss a.long a.offsets) same.symbols spell) in
     record {
-      words = flat_map words_of (units_of (read_words m.object) m.object.symbols long offsets);
+      words = flat_map words_of (units_of t symbols a.long a.offsets);
       units = record {
-        fit =
-            joined-all (units_at (read_words m.object) m.object.symbols long offsets) (count_of (read_words m.object)) here;
+        fit = joined-all (units_at t symbols a.long a.offsets) (count_of t) here;
         spelled = refl;
       };
       bytes =
-          is ∙ ap (λ (x : Words). flat_map word (flat_map words_of (units_of x m.object.symbols long offsets))) (sym same);
+          is ∙ ap (λ (x : Words). flat_map word (flat_map words_of (units_of x a.symbols a.long a.offsets))) same.source
+          ∙ ap (λ (ss : List Symbol). flat_map word (flat_map words_of (units_of t ss a.long a.offsets))) same.symbols;
     }
 
 -- ---- symbols and relocations
 
-pub symbols-are : (t source : Words) (offsets : List ℕ) (symbols slice found : List Symbol) → t ≡ source
-    → slice ≡ symbols → found ≡ map (moved_symbol source offsets) slice → found ≡ map (moved_symbol t offsets) symbols
-symbols-are t source offsets symbols slice found same is made =
-    made ∙ ap (λ (xs : List Symbol). map (moved_symbol source offsets) xs) is
-    ∙ ap (λ (x : Words). map (moved_symbol x offsets) symbols) (sym same)
+pub symbols-are : (m : Module) (a : Arrangement) (found : List Symbol) → IsArrangementOf m a
+    → found ≡ map (moved_symbol a.source a.offsets) a.symbols
+    → found ≡ map (moved_symbol (read_words m.object) a.offsets) m.object.symbols
+symbols-are m a found same made =
+    made ∙ ap (λ (xs : List Symbol). map (moved_symbol a.source a.offsets) xs) same.symbols
+    ∙ ap (λ (x : Words). map (moved_symbol x a.offsets) m.object.symbols) same.source
 
-pub relocs-are : (t source : Words) (long : List Bool) (offsets : List ℕ) (symbols symbols_is : List Symbol)
-    (relocs slice found : List Reloc) → t ≡ source → symbols_is ≡ symbols → slice ≡ relocs
-    → found ≡ map (moved_reloc source symbols_is long offsets) slice
-    → found ≡ map (moved_reloc t symbols long offsets) relocs
-relocs-are t source long offsets symbols symbols_is relocs slice found same symbols_same is made =
-    made ∙ ap (λ (xs : List Reloc). map (moved_reloc source symbols_is long offsets) xs) is
-    ∙ ap (λ (ss : List Symbol). map (moved_reloc source ss long offsets) relocs) symbols_same
-    ∙ ap (λ (x : Words). map (moved_reloc x symbols long offsets) relocs) (sym same)
+pub relocs-are : (m : Module) (a : Arrangement) (relocs slice found : List Reloc) → IsArrangementOf m a
+    → slice ≡ relocs → found ≡ map (moved_reloc_by a) slice
+    → found ≡ map (moved_reloc (read_words m.object) m.object.symbols a.long a.offsets) relocs
+relocs-are m a relocs slice found same is made =
+    made ∙ ap (λ (xs : List Reloc). map (moved_reloc_by a) xs) is
+    ∙ ap (λ (ss : List Symbol). map (moved_reloc a.source ss a.long a.offsets) relocs) same.symbols
+    ∙ ap (λ (x : Words). map (moved_reloc x m.object.symbols a.long a.offsets) relocs) same.source
 
 -- ---- records
 
@@ -127,26 +130,22 @@ moved-written m offsets r moved_is can =
 
 -- ---- what the steps before give to the object
 
-pub spells-all : (m : Module) (t : Words) (symbols : List Symbol) (long : List Bool) (long_is : List Bool)
-    (offsets : List ℕ) → t ≡ read_words m.object → symbols ≡ m.object.symbols → AreInsnsInRange t.insns
-    → IsInstrumentable (input_of m) → IsLeast t symbols long → words_before t long (count_of t) ≤ MAX_WORDS
-    → AreSmall offsets → offsets ≡ offsets_of t long → long_is ≡ long
-    → AllSpell t m.object.symbols long_is offsets
-spells-all m t symbols long long_is offsets same names range sound least fits small placed is =
+pub spells-all : (m : Module) (t : Words) (symbols : List Symbol) (long : List Bool) (offsets : List ℕ)
+    → t ≡ read_words m.object → AreInsnsInRange t.insns → IsInstrumentable (input_of m) → IsLeast t symbols long
+    → words_before t long (count_of t) ≤ MAX_WORDS → AreSmall offsets → offsets ≡ offsets_of t long
+    → AllSpell t symbols long offsets
+spells-all m t symbols long offsets same range sound least fits small placed =
     let legal : PassesWords t =
     subst (λ (x : Words). PassesWords x) (sym same) (good-words (read_words m.object) sound.jumps.shaped.words) in
-    let enough : IsEnough t m.object.symbols long =
-    subst (λ (ss : List Symbol). IsEnough t ss long) names least.enough in
-    let all : AllSpell t m.object.symbols long (offsets_of t long) =
-    all-spelled t m.object.symbols long (record {
+    let all : AllSpell t symbols long (offsets_of t long) =
+    all-spelled t symbols long (record {
       range = range;
       legal = legal;
-      enough = enough;
+      enough = least.enough;
       fits = fits;
       small = subst (λ (xs : List ℕ). AreSmall xs) placed small;
     }) in
-    subst (λ (xs : List ℕ). AllSpell t m.object.symbols long_is xs) (sym placed)
-    (subst (λ (bs : List Bool). AllSpell t m.object.symbols bs (offsets_of t long)) (sym is) all)
+    subst (λ (xs : List ℕ). AllSpell t symbols long xs) (sym placed) all
 
 -- the plan of the module itself
 pub plan-is : (m : Module) (t : Words) (symbols : List Symbol) (long : List Bool) (offsets : List ℕ)

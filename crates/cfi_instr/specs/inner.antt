@@ -10,3 +10,4 @@ pub mod Misplaced
 pub mod Stray
 pub mod Jumps
 pub mod Hops
+pub mod Arrangement

@@ -8,6 +8,7 @@
 //! that ample memory is enough, and words against an assembler. Open: when memory runs out, and the texts of faults.
 #![tactic(auto)]
 
+mod arrangement;
 mod check;
 mod ends;
 mod fault;

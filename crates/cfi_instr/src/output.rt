@@ -6,17 +6,15 @@ ghost use Rattle.cfi_type_table.specs.Spelling.{word};
 ghost use Rattle.cfi_unit.specs.Unit.{words_of};
 ghost use Rattle.cfi_aux.specs.Records.{CanBeWritten};
 ghost use Rattle.cfi_instr.specs.Words.{read_words, count_of};
-ghost use Rattle.cfi_instr.specs.Sizes.{AreSmall};
-ghost use Rattle.cfi_instr.specs.Units.{units_of, AllSpell};
 ghost use Rattle.cfi_instr.specs.Output.{AreMoved, IsObject, IsInstrumented, IsFirstInstrFault};
+ghost use Rattle.cfi_instr.specs.inner.Arrangement.{units_by, AllSpellBy, IsArrangementOf};
 
+use crate::arrangement::Arrangement;
 use crate::check::read_items;
 use crate::fault::InstrFault;
-use crate::moves::{moved_relocs, moved_symbols};
 use crate::reach::least_long;
 use crate::records::{moved_functions, moved_kinds};
 use crate::source::Source;
-use crate::text::words_of;
 use cfi_aux::{Module, Records, write_records};
 use cfi_type_table::write_types;
 use cfi_values::{Bytes, Items};
@@ -25,22 +23,13 @@ use rv_words::bytes_of;
 use std::alloc::{AllocError, Global};
 
 // The bytes of the text.
-fn text_of(
-    alloc: Global,
-    source: &Source,
-    unplaced: &Module,
-    long: &[bool],
-    offsets: &[u32],
-) -> Result<Vec<u8>, AllocError>
-    requires count { 4 * count_of source.now < 2 ^ 32 }
-    requires small { AreSmall offsets.now }
-    requires fits { AllSpell source.now unplaced.now.object.symbols long.now offsets.now }
-    ensures { IfOk result (λ text. text.items ≡ flat_map word (flat_map words_of
-        (units_of source.now unplaced.now.object.symbols long.now offsets.now))) }
+fn text_of(alloc: Global, arrangement: &Arrangement) -> Result<Vec<u8>, AllocError>
+    requires count { 4 * count_of arrangement.now.source < 2 ^ 32 }
+    requires fits { AllSpellBy arrangement.now }
+    ensures { IfOk result (λ text.
+        text.items ≡ flat_map word (flat_map words_of (units_by arrangement.now))) }
 {
-    let symbols = unplaced.object.symbols.as_slice();
-    let words = words_of(alloc, source, symbols, long, offsets)?;
-    bytes_of(alloc, &words)
+    bytes_of(alloc, &arrangement.words(alloc)?)
 }
 
 // The records, moved.
@@ -65,28 +54,24 @@ fn records_of(
 // The object, with these records.
 fn object_of(
     alloc: Global,
-    source: &Source,
+    arrangement: &Arrangement,
     unplaced: &Module,
-    long: &[bool],
-    offsets: &[u32],
     records: &Records,
 ) -> Result<Object, AllocError>
-    requires count { 4 * count_of source.now < 2 ^ 32 }
-    requires same { read_words unplaced.now.object ≡ source.now }
-    requires small { AreSmall offsets.now }
-    requires fits { AllSpell source.now unplaced.now.object.symbols long.now offsets.now }
+    requires count { 4 * count_of arrangement.now.source < 2 ^ 32 }
+    requires same { IsArrangementOf unplaced.now arrangement.now }
+    requires fits { AllSpellBy arrangement.now }
     requires nodes { length unplaced.now.types < 2 ^ 32 }
     requires fields { All (λ x. length x.fields < 2 ^ 32) unplaced.now.types }
     requires written { CanBeWritten records.now }
-    ensures { IfOk result (IsObject unplaced.now long.now offsets.now records.now) }
+    ensures { let a = arrangement.now in
+        IfOk result (IsObject unplaced.now a.long a.offsets records.now) }
 {
     let object = &unplaced.object;
-    let text = text_of(alloc, source, unplaced, long, offsets)?;
+    let text = text_of(alloc, arrangement)?;
     let static_data = Vec::from_slice(alloc, object.static_data.as_slice())?;
-    let symbols = object.symbols.as_slice();
-    let relocs = object.relocs.as_slice();
-    let relocs = moved_relocs(alloc, source, symbols, long, offsets, relocs)?;
-    let symbols = moved_symbols(alloc, source, offsets, symbols)?;
+    let symbols = arrangement.moved_symbols(alloc)?;
+    let relocs = arrangement.moved_relocs(alloc, object.relocs.as_slice())?;
     Ok(Object {
         text: Bytes::from_vec(text),
         static_data: Bytes::from_vec(static_data),
@@ -115,7 +100,13 @@ pub fn instrument(alloc: Global, unplaced: &Module) -> Result<Module, InstrFault
     let symbols = unplaced.object.symbols.as_slice();
     let (long, offsets) = least_long(alloc, &source, symbols)?;
     let records = records_of(alloc, &source, unplaced, &offsets)?;
-    let object = object_of(alloc, &source, unplaced, &long, &offsets, &records)?;
+    let arrangement = Arrangement {
+        source: &source,
+        symbols,
+        long: &long,
+        offsets: &offsets,
+    };
+    let object = object_of(alloc, &arrangement, unplaced, &records)?;
     let types = unplaced.types.copied(alloc)?;
     Ok(Module {
         object,

@@ -2,15 +2,14 @@
 
 ghost use Rattle.std.specs.Prelude.{◌≡◌, ◌*◌, ◌<◌, ◌^◌};
 ghost use Rattle.cfi_instr.specs.Jumps.{ordinal_of};
-ghost use Rattle.cfi_instr.specs.Sizes.{AreSmall};
 ghost use Rattle.cfi_instr.specs.Units.{inverse, distance, displacement_from, unit_of, off_of, short_unit, over, long_jump, is_wide, pair_unit};
 
+use crate::arrangement::Arrangement;
 use crate::insns::{is_branch, is_linked};
 use crate::reach::target_of;
 use crate::sizes::{is_long, offset_at};
 use crate::source::Source;
 use cfi_unit::Unit;
-use elf_read::Symbol;
 use rv_insn::{Cond, Insn};
 
 /// The condition that holds exactly where another does not.
@@ -50,31 +49,6 @@ fn off_of(insn: Insn) -> i32
     }
 }
 
-// The displacement from an offset of the output to the target of the jump or branch at the word; `under` where a
-// relocation will fill it.
-fn displacement_from(
-    source: &Source,
-    symbols: &[Symbol],
-    offsets: &[u32],
-    w: usize,
-    from: u32,
-    off: i32,
-    under: i32,
-) -> i32
-    requires word { 4 * w < 2 ^ 32 }
-    requires from { from < 2 ^ 31 }
-    requires small { AreSmall offsets.now }
-    ensures { result ≡ displacement_from source.now symbols.now offsets.now w from off under }
-{
-    if source.reloc_on(w).is_some() {
-        return under;
-    }
-    distance(
-        from,
-        target_of(offsets, source.aim_of_jump(symbols, w, off)),
-    )
-}
-
 // The unit of an item that is one instruction, and no long branch.
 fn unit_of(number: u32, off: i32, insn: Insn) -> Unit
     ensures { result ≡ unit_of number off insn }
@@ -110,26 +84,6 @@ fn unit_of(number: u32, off: i32, insn: Insn) -> Unit
     }
 }
 
-/// The unit of an instruction that is no long branch; `number` is that of an indirect jump.
-pub fn short_unit(
-    source: &Source,
-    symbols: &[Symbol],
-    offsets: &[u32],
-    w: usize,
-    number: u32,
-    insn: Insn,
-) -> Unit
-    requires word { 4 * w < 2 ^ 32 }
-    requires small { AreSmall offsets.now }
-    ensures { number ≡ ordinal_of source.now w →
-        result ≡ short_unit source.now symbols.now offsets.now w insn }
-{
-    let off = off_of(insn);
-    let from = offset_at(offsets, w);
-    let off = displacement_from(source, symbols, offsets, w, from, off, off);
-    unit_of(number, off, insn)
-}
-
 /// The first unit of a long branch: the inverse one, over the second.
 pub fn over(insn: Insn) -> Unit
     ensures { result ≡ over insn }
@@ -145,26 +99,6 @@ pub fn over(insn: Insn) -> Unit
     }
 }
 
-/// The second unit of a long branch: the jump.
-pub fn long_jump(source: &Source, symbols: &[Symbol], offsets: &[u32], w: usize, insn: Insn) -> Unit
-    requires word { 4 * w < 2 ^ 32 }
-    requires small { AreSmall offsets.now }
-    ensures { result ≡ long_jump source.now symbols.now offsets.now w insn }
-{
-    let from = offset_at(offsets, w) + 4;
-    Unit::Jump {
-        link: false,
-        off: displacement_from(source, symbols, offsets, w, from, off_of(insn), 0),
-    }
-}
-
-/// Whether the instruction at the word is a long branch.
-pub fn is_wide(long: &[bool], w: usize, insn: Insn) -> bool
-    ensures { result ≡ is_wide long.now w insn }
-{
-    is_long(long, w) && is_branch(insn)
-}
-
 /// The unit of a pair at the word: a jump that a relocation will fill.
 pub fn pair_unit(source: &Source, w: usize) -> Unit
     requires { 4 * w < 2 ^ 32 }
@@ -175,4 +109,51 @@ pub fn pair_unit(source: &Source, w: usize) -> Unit
         None => false,
     };
     Unit::Jump { link, off: 0 }
+}
+
+impl<'a> Arrangement<'a> {
+    // The displacement from an offset of the output to the target of the jump or branch at the word; `under` where a
+    // relocation will fill it.
+    fn displacement_from(&self, w: usize, from: u32, off: i32, under: i32) -> i32
+        requires word { 4 * w < 2 ^ 32 }
+        requires from { from < 2 ^ 31 }
+        ensures { result ≡
+            displacement_from self.now.source self.now.symbols self.now.offsets w from off under }
+    {
+        if self.source.reloc_on(w).is_some() {
+            return under;
+        }
+        let aim = self.source.aim_of_jump(self.symbols, w, off);
+        distance(from, target_of(self.offsets, aim))
+    }
+
+    /// The unit of an instruction that is no long branch; `number` is that of an indirect jump.
+    pub fn short_unit(&self, w: usize, number: u32, insn: Insn) -> Unit
+        requires { 4 * w < 2 ^ 32 }
+        ensures { number ≡ ordinal_of self.now.source w →
+            result ≡ short_unit self.now.source self.now.symbols self.now.offsets w insn }
+    {
+        let off = off_of(insn);
+        let off = self.displacement_from(w, offset_at(self.offsets, w), off, off);
+        unit_of(number, off, insn)
+    }
+
+    /// The second unit of a long branch: the jump.
+    pub fn long_jump(&self, w: usize, insn: Insn) -> Unit
+        requires { 4 * w < 2 ^ 32 }
+        ensures { result ≡ long_jump self.now.source self.now.symbols self.now.offsets w insn }
+    {
+        let from = offset_at(self.offsets, w) + 4;
+        Unit::Jump {
+            link: false,
+            off: self.displacement_from(w, from, off_of(insn), 0),
+        }
+    }
+
+    /// Whether the instruction at the word is a long branch.
+    pub fn is_wide(&self, w: usize, insn: Insn) -> bool
+        ensures { result ≡ is_wide self.now.long w insn }
+    {
+        is_long(self.long, w) && is_branch(insn)
+    }
 }

@@ -9,14 +9,15 @@ use Rattle.cfi_instr.proofs.output.instrument.Goals as goal
 
 pub object_of-requires-clause-fits : goal.object_of-requires-clause-fits
 object_of-requires-clause-fits c =
-    let m = c.args.unplaced.now in
     let t = c.in_ok-source.source in
+    let symbols = c.as_slice-symbols.result.now in
+    let long = c.in_ok-long.long.items in
     let offsets = c.in_ok-long.offsets.items in
-    subst (λ (xs : List ℕ). AllSpell t m.object.symbols c.deref-2.result.now xs) (sym c.deref-3.ensures.value)
-    (spells-all m t c.as_slice-symbols.result.now c.in_ok-long.long.items c.deref-2.result.now offsets
-    c.in_ok-source.ensures.ok c.as_slice-symbols.ensures c.in_ok-source.ensures.range c.in_ok-source.ensures.sound
-    c.in_ok-long.ensures.least c.in_ok-long.ensures.fits c.in_ok-long.ensures.small c.in_ok-long.ensures.placed
-    c.deref-2.ensures.value)
+    let made = c.in_ok-long.ensures in
+    subst (λ (xs : List ℕ). AllSpell t symbols c.deref-2.result.now xs) (sym c.deref-3.ensures.value)
+    (subst (λ (bs : List Bool). AllSpell t symbols bs offsets) (sym c.deref-2.ensures.value)
+    (spells-all c.args.unplaced.now t symbols long offsets c.in_ok-source.ensures.ok c.in_ok-source.ensures.range
+    c.in_ok-source.ensures.sound made.least made.fits made.small made.placed))
 
 pub object_of-requires-clause-written : goal.object_of-requires-clause-written
 object_of-requires-clause-written c =
