@@ -9,6 +9,7 @@
 #![tactic(auto)]
 
 mod branch;
+mod copies;
 mod fault;
 mod format;
 mod function;
@@ -23,6 +24,7 @@ mod version;
 mod word;
 mod writing;
 
+pub use copies::{copied_branches, copied_bytes, copied_name, copied_placed};
 pub use fault::AuxFault;
 pub use format::{CALL, IMPORT, RETURN, SWITCH, TAIL};
 pub use laws::{some_object_is_sound, what_is_read_is_sound};

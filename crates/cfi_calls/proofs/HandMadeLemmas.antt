@@ -1,13 +1,17 @@
 -- What modules written by hand, and an empty list of edges, are.
-use Rattle.std.proofs.Common.{ℕ, ◌≡◌, ◌+◌, ◌<◌, ◌≤◌, [], ◌∷◌, length, get_or, All, refl, sym, subst, arith}
+use Rattle.std.proofs.Common.{ℕ, ℤ, false, ◌≡◌, ◌+◌, ◌<◌, ◌≤◌, [], ◌∷◌, length, get_or, All, refl, sym, subst, arith}
+use Rattle.cfi_unit.specs.declared.unit.Unit.TheVariants.{Jump}
+use Rattle.cfi_unit.specs.Unit.{IsUnit}
+use Rattle.cfi_word.specs.declared.limits.TheConstants.{MAX_CODE_WORDS}
+use Rattle.cfi_word.specs.declared.map.TheConstants.{FIRST_BASE}
 use Rattle.cfi_aux.specs.declared.placed.Placed.{Placed}
 use Rattle.cfi_word.specs.Table.{slots_of}
 use Rattle.cfi_class.specs.Labels.{CanBeLabelled}
 use Rattle.cfi_graph.specs.Reading.{HaveGraph}
 use Rattle.cfi_type_table.specs.Spelling.{AreTypes}
 use Rattle.cfi_graph.specs.HandMade.{placed_of, void_and_function}
-use Rattle.cfi_graph.specs.Shaped.{IsBefore, IsShaped}
-use Rattle.cfi_graph.proofs.HandMadeLemmas.{all_none, all_more, pairs_none}
+use Rattle.cfi_graph.specs.Shaped.{IsPart, IsNamed, FunctionPrecedes, IsBefore, IsShaped}
+use Rattle.cfi_graph.proofs.HandMadeLemmas.{all_none, all_more, pairs_none, hand_made_is_shaped}
 use Rattle.cfi_graph.proofs.CallRows.{call_code, call_rows, call_kinds, call_modules}
 use Rattle.cfi_policy.specs.Code.{LieApart}
 
@@ -49,3 +53,20 @@ none_has_graph = record {
   few = omega arith;
   nodes = omega arith;
 }
+
+-- a module of a direct jump is shaped
+pub jump_shaped : (base : ℕ) (off : ℤ) → FIRST_BASE ≤ base → base < MAX_CODE_WORDS → IsUnit (Jump false off)
+    → IsShaped (placed_of base 0 (Jump false off ∷ []) [] [] refl [])
+jump_shaped base off begins ends unit =
+    let code = Jump false off ∷ [] in
+    hand_made_is_shaped base 0 code [] [] refl [] (record {
+      fit = (unit, tt);
+      parts = all_none (IsPart code);
+      order = pairs_none FunctionPrecedes;
+      checks = refl;
+      slots = tt;
+      named = all_none (IsNamed code 0);
+      typed = all_none (λ f. f.ty < 0);
+      begins = begins;
+      ends = omega (arith, ends);
+    })

@@ -1,6 +1,6 @@
 //! Calls of the lower crates, beside values from outside: assemblers, a linker, the manual, MCFI, or a hand.
 //!
-//! Stands on the crates up to `cfi_policy` and `cfi_world`; nothing stands on it. It is a program of its own, so that
+//! Stands on the crates up to `cfi_retire` and `cfi_world`; nothing stands on it. It is a program of its own, so that
 //! those crates are proved once; `stdout` has what it must print. Each function has its values and says where they come
 //! from, and answers whether the calls agree. The outside is called too, in the folder where the program runs. Proved:
 //! that each keeps what the calls take for granted. Open: nothing.
@@ -15,6 +15,7 @@ mod made;
 mod outside;
 mod policies;
 mod relocations;
+mod retiring;
 mod types;
 mod units;
 mod words;
@@ -92,6 +93,9 @@ fn tell_policies(rt: &HostRuntime, alloc: Global) -> io::Result<()> {
         policies::new_edges(alloc)?,
     )?;
     tell(rt, "a book of modules", policies::book(alloc)?)?;
+    tell(rt, "a chain of tail calls", policies::chain(alloc)?)?;
+    tell(rt, "first users", retiring::users(alloc)?)?;
+    tell(rt, "live modules", retiring::live(alloc)?)?;
     tell(rt, "turns of a world", worlds::turns(alloc)?)
 }
 

@@ -1,4 +1,5 @@
 pub mod ShapeLemmas
+mod LiveLemmas
 mod AddsLemmas
 mod PlaceLemmas
 mod FactLemmas

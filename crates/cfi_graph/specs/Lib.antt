@@ -2,6 +2,7 @@ pub mod Code
 pub mod Shaped
 pub mod Calls
 pub mod Direct
+pub mod Live
 pub mod Facts
 pub mod Links
 pub mod Reading

@@ -5,10 +5,11 @@
 //! of them, in number bound by what the modules hold, have chains that join what any joins; those that one module more
 //! brings are told without the others; links that are kept are those of all modules when one is added; the units of a
 //! module's code are read with the words at which they stand; shaped modules, each of which follows the one before, are
-//! apart; the policy allows each direct edge; a name means one address to the modules that import it; a graph can be
-//! made of some module. Only tested, in `cfi_calls`: the edges of modules that are written by hand. No clause says how
-//! much is looked at: where a module is added its code is read, and that of modules whose imports it meets; names of
-//! functions before it are looked at only where it imports some, or has some that they import. Open: nothing.
+//! apart, and so are the live ones of modules that are; the policy allows each direct edge; a name means one address to
+//! the modules that import it; a graph can be made of some module. Only tested, in `cfi_calls`: the edges of modules
+//! that are written by hand. No clause says how much is looked at: where a module is added its code is read, and that
+//! of modules whose imports it meets; names of functions before it are looked at only where it imports some, or has
+//! some that they import. Open: nothing.
 #![tactic(auto)]
 
 mod branch_facts;
@@ -30,5 +31,6 @@ pub use direct::{edges, spanning};
 pub use kept_graph::KeptGraph;
 pub use laws::{a_name_means_one_address, direct_is_allowed, some_module_has_graph};
 pub use new_edges::fresh;
-pub use shaped::shaped_are_apart;
+pub use place::word_to;
+pub use shaped::{live_are_apart, shaped_are_apart};
 pub use spot::spots;

@@ -10,6 +10,9 @@ use std::marker::Model;
 /// How many marks there are.
 pub(crate) const MARKS: usize = 256;
 
+/// By how much each byte of a name counts more than the next one.
+pub(crate) const BYTE_WEIGHT: usize = 31;
+
 /// Some of the marks.
 #[derive(Drop)]
 pub(crate) struct Marks {
@@ -35,7 +38,7 @@ fn mark(name: &str) -> usize
 {
     let mut mark = 0usize;
     for byte in name.as_bytes() {
-        mark = (31 * mark + *byte as usize) % MARKS;
+        mark = (BYTE_WEIGHT * mark + *byte as usize) % MARKS;
     }
     mark
 }

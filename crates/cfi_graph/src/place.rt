@@ -13,8 +13,8 @@ use cfi_type_table::{FUNC, VARFUNC};
 use cfi_types::Classes;
 use cfi_word::limits::MAX_CODE_WORDS;
 
-// The code word that an offset leads to from another, where it leads to one.
-pub(crate) fn word_to(at: u32, off: i32) -> Option<u32>
+/// The code word that an offset in bytes leads to from another, where it leads to one.
+pub fn word_to(at: u32, off: i32) -> Option<u32>
     requires { at < MAX_CODE_WORDS }
     ensures some { IfSome result (LeadsToWord at off) }
     ensures only { (word : ℕ) → LeadsToWord at off word → result ≡ Some word }

@@ -2,24 +2,10 @@
 
 ghost use Rattle.std.specs.Prelude.{◌≡◌, ◌++◌, OnOk, IfOk};
 
-use cfi_aux::{Function, Kind};
-use cfi_values::{Bytes, Items};
-use elf_read::{Name, Symbol};
+use cfi_aux::{Function, copied_bytes, copied_name};
+use cfi_values::Bytes;
+use elf_read::Symbol;
 use std::alloc::{AllocError, Global};
-
-/// The same name.
-pub fn copied_name(alloc: Global, name: &Name) -> Result<Name, AllocError>
-    ensures { IfOk result (λ made. made ≡ name.now) }
-{
-    Ok(Name::from_string(String::from_str(alloc, name.as_str())?))
-}
-
-/// The same bytes.
-pub fn copied_bytes(alloc: Global, bytes: &Bytes) -> Result<Bytes, AllocError>
-    ensures { IfOk result (λ made. made ≡ bytes.now) }
-{
-    Ok(Bytes::from_vec(Vec::from_slice(alloc, bytes.as_slice())?))
-}
 
 /// The same bytes, where there are any.
 pub fn copied_section(alloc: Global, section: &Option<Bytes>) -> Result<Option<Bytes>, AllocError>
@@ -75,34 +61,6 @@ pub fn copied_functions(alloc: Global, functions: &[Function]) -> Result<Vec<Fun
     let mut made = Vec::with_capacity(alloc, functions.len())?;
     for function in functions {
         made.push(copied_function(alloc, function)?)?;
-    }
-    Ok(made)
-}
-
-fn copied_kind(alloc: Global, kind: &Kind) -> Result<Kind, AllocError>
-    ensures { IfOk result (λ made. made ≡ kind.now) }
-{
-    Ok(match kind {
-        Kind::Call(node) => Kind::Call(*node),
-        Kind::Tail(node) => Kind::Tail(*node),
-        Kind::Return => Kind::Return,
-        Kind::Switch(entries) => {
-            Kind::Switch(Items::from_vec(Vec::from_slice(alloc, entries.as_slice())?))
-        }
-        Kind::Import { name, cell } => Kind::Import {
-            name: copied_name(alloc, name)?,
-            cell: *cell,
-        },
-    })
-}
-
-/// The same branches.
-pub fn copied_branches(alloc: Global, branches: &[Kind]) -> Result<Vec<Kind>, AllocError>
-    ensures { IfOk result (λ made. made.items ≡ branches.now) }
-{
-    let mut made = Vec::with_capacity(alloc, branches.len())?;
-    for kind in branches {
-        made.push(copied_kind(alloc, kind)?)?;
     }
     Ok(made)
 }

@@ -5,9 +5,8 @@ ghost use Rattle.std.specs.List.{enumerate_from};
 ghost use Rattle.cfi_import.specs.Stubs.{stub_function, stub_kind, stub_nodes};
 ghost use Rattle.cfi_import.specs.inner.Room.{HasRoom};
 
-use crate::copies::copied_name;
 use crate::start::{STUB_BYTES, Start};
-use cfi_aux::{Function, Kind};
+use cfi_aux::{Function, Kind, copied_name};
 use cfi_type_table::{FUNC, TypeNode, VOID};
 use elf_read::Name;
 use std::alloc::{AllocError, Global};

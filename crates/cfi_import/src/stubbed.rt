@@ -12,9 +12,7 @@ ghost use Rattle.cfi_import.specs.inner.Found.{place_in};
 ghost use Rattle.cfi_import.specs.inner.Made.{IsReady, AreWritable, AreRecordsWith, IsObjectWith};
 ghost use Rattle.cfi_import.specs.inner.Room.{HasRoom};
 
-use crate::copies::{
-    copied_branches, copied_bytes, copied_functions, copied_section, push_symbols,
-};
+use crate::copies::{copied_functions, copied_section, push_symbols};
 use crate::fault::StubFault;
 use crate::imports::{Imports, find_imports};
 use crate::limit::passed;
@@ -25,7 +23,7 @@ use crate::sizes::sizes_with;
 use crate::start::{Start, start_of};
 use crate::symbols::with_symbols;
 use crate::texts::{with_cells, with_texts};
-use cfi_aux::{Module, Records, write_records};
+use cfi_aux::{Module, Records, copied_branches, copied_bytes, write_records};
 use cfi_type_table::{TypeTable, write_types};
 use cfi_values::{Bytes, Items};
 use elf_read::{Name, Object, Relocs, Symbols};

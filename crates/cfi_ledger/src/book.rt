@@ -8,8 +8,8 @@ ghost use Rattle.cfi_modules.specs.Series.{without_last, HasJoined, CanBeTaken};
 
 use crate::roster::Roster;
 use cfi_aux::Module;
-use cfi_policy::{Book, code_of};
 use cfi_modules::{JoinFault, Prepared, Refused, Series};
+use cfi_policy::{Book, code_of};
 use std::alloc::{AllocError, Global};
 
 // The book of the modules, with its classes in the order of their least slots.

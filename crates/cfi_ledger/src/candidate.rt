@@ -3,9 +3,9 @@
 ghost use Rattle.std.specs.Prelude.{◌≡◌};
 
 use crate::roster::Roster;
+use cfi_modules::Prepared;
 use cfi_plan::ModuleLine;
 use cfi_policy::Book;
-use cfi_modules::Prepared;
 use cfi_unit::Fill;
 use cfi_word::Image;
 use std::alloc::Global;

@@ -8,8 +8,8 @@ ghost use Rattle.cfi_word.specs.declared.limits.TheConstants.{GUESTS};
 ghost use Rattle.cfi_ledger.specs.Entries.{AllEnter, IsFirstOut};
 
 use cfi_aux::Placed;
-use cfi_plan::{Plan, PlanModule};
 use cfi_modules::entry_in;
+use cfi_plan::{Plan, PlanModule};
 use cfi_values::Text;
 use cfi_word::map::FIRST_BASE;
 

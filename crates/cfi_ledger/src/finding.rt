@@ -7,8 +7,8 @@ ghost use Rattle.cfi_modules.specs.declared.fault.JoinFault.TheVariants.{Place};
 ghost use Rattle.cfi_ledger.specs.Finding.{fault_by};
 
 use cfi_aux::Module;
-use cfi_place::PlaceFault;
 use cfi_modules::JoinFault;
+use cfi_place::PlaceFault;
 use cfi_verify::VerifyFault;
 use elf_read::{Name, Symbol};
 use rv_reloc::RelocFault;

@@ -8,8 +8,8 @@ ghost use Rattle.cfi_modules.specs.Series.{HasJoined, CanBeTaken};
 
 use crate::entrant::{Entrant, fill_of, line_of};
 use cfi_aux::{Module, Placed};
-use cfi_plan::ModuleLine;
 use cfi_modules::{JoinFault, Prepared, Refused, Series};
+use cfi_plan::ModuleLine;
 use cfi_unit::Fill;
 use cfi_word::Image;
 use std::alloc::{AllocError, Global};

@@ -4,8 +4,8 @@ ghost use Rattle.std.specs.Prelude.{◌≡◌, option_map};
 ghost use Rattle.cfi_modules.specs.Numbers.{numbers_of};
 ghost use Rattle.cfi_valid.specs.NumberedLine.{numbered_line};
 
-use cfi_plan::JournalLine;
 use cfi_modules::{FaultNumbers, JoinFault};
+use cfi_plan::JournalLine;
 
 /// The line that tells of a fault of joining; None for want of memory.
 pub fn join_line(number: u32, fault: &JoinFault) -> Option<JournalLine>

@@ -4,8 +4,8 @@ ghost use Rattle.std.specs.Prelude.{◌≡◌};
 ghost use Rattle.cfi_loader.specs.inner.Loads.{load_fault_of, load_fault_by, update_line};
 
 use crate::fault::LoadFault;
-use cfi_plan::JournalLine;
 use cfi_modules::JoinFault;
+use cfi_plan::JournalLine;
 use cfi_tables::UpdateFault;
 
 /// The fault of joining as one of loading.

@@ -15,8 +15,8 @@ use crate::fault::LoadFault;
 use crate::loaded::Loaded;
 use crate::telling::{load_fault_by, load_fault_of, update_line};
 use cfi_ledger::{Books, Candidate, join_line};
-use cfi_plan::{JournalLine, Who};
 use cfi_modules::JoinFault;
+use cfi_plan::{JournalLine, Who};
 use cfi_tables::UpdateFault;
 
 /// The answer where the module stands at this place in load order.

@@ -6,7 +6,6 @@
 #![tactic(auto)]
 
 mod bytes;
-mod copies;
 mod defined;
 mod fault;
 mod functions;

@@ -6,14 +6,13 @@ ghost use Rattle.cfi_place.specs.Names.{find_in};
 ghost use Rattle.cfi_place.specs.Placed.{IsRoom, IsPlaced, IsFault, placed_in};
 
 use crate::bytes::placed_bytes;
-use crate::copies::branches_copy;
 use crate::fault::PlaceFault;
 use crate::functions::placed_functions;
 use crate::room::Room;
 use crate::symbols::Symbols;
 use crate::value::{see_values, values};
 use crate::words::placed_words;
-use cfi_aux::{Module, Placed, exports};
+use cfi_aux::{Module, Placed, copied_branches, exports};
 use cfi_values::{Bytes, Items};
 use std::alloc::Global;
 
@@ -52,7 +51,7 @@ pub fn place(
         words: Items::from_vec(words),
         static_data: Bytes::from_vec(static_data),
         functions: Items::from_vec(functions),
-        branches: Items::from_vec(branches_copy(alloc, unplaced.records.branches.as_slice())?),
+        branches: Items::from_vec(copied_branches(alloc, unplaced.records.branches.as_slice())?),
         types: unplaced.types.copied(alloc)?,
         exports,
     })

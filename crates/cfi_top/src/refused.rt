@@ -7,8 +7,8 @@ ghost use Rattle.cfi_top.specs.Refused.{IsAmong, IsOpenAmong, IsRefusalOf, IsMod
 use crate::answer::Answer;
 use cfi_commands::{CommandFault, Refusal};
 use cfi_ledger::OpenFault;
-use cfi_request::text_of;
 use cfi_plan::{PlanFault, PlanModule};
+use cfi_request::text_of;
 use cfi_values::Text;
 use std::alloc::{AllocError, Global};
 

@@ -15,12 +15,12 @@ ghost use Rattle.cfi_word.specs.declared.limits.TheConstants.{MAX_FILE_BYTES};
 use crate::answer::{Answer, output_of};
 use crate::plans::sim_refused;
 use crate::refused::{module_refused, plan_refused};
-use cfi_request::{
-    Command, MEMORY, Output, USAGE, deliver, line_of, only, read_files, split_words, text_of,
-};
 use cfi_commands::read_modules;
 use cfi_io::{Shelf, Sink};
 use cfi_plan::{Plan, read_plan};
+use cfi_request::{
+    Command, MEMORY, Output, USAGE, deliver, line_of, only, read_files, split_words, text_of,
+};
 use cfi_sim::trace;
 use cfi_values::{Bytes, Items, Text};
 use std::alloc::{AllocError, Global};

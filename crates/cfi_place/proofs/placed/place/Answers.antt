@@ -59,7 +59,7 @@ returns-clause-ok c =
           functions-are object.symbols c.as_slice-4.result.now c.args.unplaced.now.records.functions
           c.as_slice-functions.result.now c.from_vec-3.result c.as_slice-4.ensures c.as_slice-functions.ensures
           (c.from_vec-3.ensures ∙ c.in_ok-functions.ensures);
-      branches = c.from_vec-4.ensures ∙ c.in_ok-branches_copy.ensures ∙ c.as_slice-5.ensures;
+      branches = c.from_vec-4.ensures ∙ c.in_ok-copied_branches.ensures ∙ c.as_slice-5.ensures;
       types = c.in_ok-copied.ensures;
       exports = c.in_ok-exports.ensures;
     }

@@ -1,0 +1,3 @@
+mod JumpLemmas
+mod LiveListLemmas
+mod UserLemmas
