@@ -34,7 +34,7 @@ fn places_from(
 }
 
 impl<'a> RecordReader<'a> {
-    #[tactic(auto, unfolding(crate::specs::Faults::import_at, crate::specs::Reading::seen_as, crate::specs::Reading::and_also))]
+    #[tactic(auto, unfolding(crate::specs::Fault::import_at, crate::specs::Reading::seen_as, crate::specs::Reading::and_also))]
     fn import_from<'b>(
         &self,
         number: u32,
@@ -49,7 +49,7 @@ impl<'a> RecordReader<'a> {
         Ok((Kind::Import { name, cell }, rest))
     }
 
-    #[tactic(auto, unfolding(crate::specs::Faults::body_at, crate::specs::Reading::seen_as))]
+    #[tactic(auto, unfolding(crate::specs::Fault::body_at, crate::specs::Reading::seen_as))]
     fn body_from<'b>(
         &self,
         number: u32,
@@ -78,7 +78,7 @@ impl<'a> RecordReader<'a> {
         }
     }
 
-    #[tactic(auto, unfolding(crate::specs::Faults::branch_at, crate::specs::Reading::seen_as, crate::specs::Reading::and_with))]
+    #[tactic(auto, unfolding(crate::specs::Fault::branch_at, crate::specs::Reading::seen_as, crate::specs::Reading::and_with))]
     fn branch_from<'b>(&self, number: u32, bytes: &'b [u8]) -> Result<(Kind, &'b [u8]), AuxFault>
         ensures { ReadingGives (λ x. (x.0, x.1.now)) result
             (branch_at self.now.version self.now.types.now self.now.size number bytes.now) }

@@ -10,7 +10,7 @@ use crate::records::Function;
 use crate::word::{flags_from, length_from, place_from, type_from};
 
 impl<'a> RecordReader<'a> {
-    #[tactic(auto, unfolding(crate::specs::Faults::function_at, crate::specs::Reading::seen_as, crate::specs::Reading::and_also))]
+    #[tactic(auto, unfolding(crate::specs::Fault::function_at, crate::specs::Reading::seen_as, crate::specs::Reading::and_also))]
     fn function_from<'b>(
         &self,
         number: u32,

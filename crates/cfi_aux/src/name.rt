@@ -11,7 +11,7 @@ use crate::word::{import_length_from, name_length_from};
 use elf_read::Name;
 use std::alloc::Global;
 
-#[tactic(auto, unfolding(crate::specs::Faults::text_at))]
+#[tactic(auto, unfolding(crate::specs::Fault::text_at))]
 fn text_from(
     alloc: Global,
     number: u32,
@@ -56,7 +56,7 @@ pub fn padding(length: usize) -> usize
     (4 - length % 4) % 4
 }
 
-#[tactic(auto, unfolding(crate::specs::Faults::padded_at, crate::specs::Reading::seen_as, crate::specs::Reading::and_also))]
+#[tactic(auto, unfolding(crate::specs::Fault::padded_at, crate::specs::Reading::seen_as, crate::specs::Reading::and_also))]
 fn padded_from(
     alloc: Global,
     number: u32,
@@ -71,7 +71,7 @@ fn padded_from(
 }
 
 /// The name in record `number`, with its length before it and zero bytes after it.
-#[tactic(auto, unfolding(crate::specs::Faults::name_where, crate::specs::Reading::seen_as, crate::specs::Reading::and_with))]
+#[tactic(auto, unfolding(crate::specs::Fault::name_where, crate::specs::Reading::seen_as, crate::specs::Reading::and_with))]
 pub fn name_from(alloc: Global, number: u32, bytes: &[u8]) -> Result<(Name, &[u8]), AuxFault>
     ensures { ReadingGives (λ x. (x.0, x.1.now)) result (name_at number bytes.now) }
 {
@@ -81,7 +81,7 @@ pub fn name_from(alloc: Global, number: u32, bytes: &[u8]) -> Result<(Name, &[u8
 }
 
 /// The same name, of an import that has `count` words.
-#[tactic(auto, unfolding(crate::specs::Faults::name_where, crate::specs::Reading::seen_as, crate::specs::Reading::and_with))]
+#[tactic(auto, unfolding(crate::specs::Fault::name_where, crate::specs::Reading::seen_as, crate::specs::Reading::and_with))]
 pub fn import_name_from(
     alloc: Global,
     number: u32,

@@ -30,7 +30,7 @@ pub struct RecordReader<'a> {
 }
 
 impl<'a> RecordReader<'a> {
-    #[tactic(auto, unfolding(crate::specs::Faults::records_at, crate::specs::Reading::seen_as, crate::specs::Reading::and_with, crate::specs::Reading::and_also))]
+    #[tactic(auto, unfolding(crate::specs::Fault::records_at, crate::specs::Reading::seen_as, crate::specs::Reading::and_with, crate::specs::Reading::and_also))]
     fn records_from<'b>(&self, bytes: &'b [u8]) -> Result<(Records, &'b [u8]), AuxFault>
         ensures { ReadingGives (λ x. (x.0, x.1.now)) result
             (records_at self.now.version self.now.types.now self.now.size bytes.now) }
@@ -47,7 +47,7 @@ impl<'a> RecordReader<'a> {
     }
 }
 
-#[tactic(auto, unfolding(crate::specs::Faults::records_within, crate::specs::Faults::whole_at, crate::specs::Reading::and_with))]
+#[tactic(auto, unfolding(crate::specs::Fault::records_within, crate::specs::Fault::whole_at, crate::specs::Reading::and_with))]
 fn all_of(
     alloc: Global,
     bytes: &[u8],

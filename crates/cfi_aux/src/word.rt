@@ -15,7 +15,7 @@ use crate::version::{RecordVersion, is_type, last_kind, version_of};
 use cfi_type_table::{TypeTable, split_word};
 
 /// The version, whose word stands first.
-#[tactic(auto, unfolding(crate::specs::Faults::version_at))]
+#[tactic(auto, unfolding(crate::specs::Fault::version_at))]
 pub fn version_from(bytes: &[u8]) -> Result<(RecordVersion, &[u8]), AuxFault>
     ensures { ReadingGives (λ x. (x.0, x.1.now)) result (version_at bytes.now) }
 {

@@ -5,7 +5,7 @@ ghost use Rattle.std.specs.List.{flat_map};
 ghost use Rattle.cfi_type_table.specs.Spelling.{word};
 ghost use Rattle.cfi_unit.specs.Unit.{words_of};
 ghost use Rattle.cfi_aux.specs.Records.{CanBeWritten};
-ghost use Rattle.cfi_instr.specs.Words.{read_words, count_of};
+ghost use Rattle.cfi_instr.specs.Words.{count_of};
 ghost use Rattle.cfi_instr.specs.Output.{AreMoved, IsObject, IsInstrumented, IsFirstInstrFault};
 ghost use Rattle.cfi_instr.specs.inner.Arrangement.{units_by, AllSpellBy, IsArrangementOf};
 
@@ -13,8 +13,6 @@ use crate::arrangement::Arrangement;
 use crate::check::read_items;
 use crate::fault::InstrFault;
 use crate::reach::least_long;
-use crate::records::{moved_functions, moved_kinds};
-use crate::source::Source;
 use cfi_aux::{Module, Records, write_records};
 use cfi_type_table::write_types;
 use cfi_values::{Bytes, Items};
@@ -35,16 +33,15 @@ fn text_of(alloc: Global, arrangement: &Arrangement) -> Result<Vec<u8>, AllocErr
 // The records, moved.
 fn records_of(
     alloc: Global,
-    source: &Source,
+    arrangement: &Arrangement,
     unplaced: &Module,
-    offsets: &[u32],
 ) -> Result<Records, AllocError>
-    requires { read_words unplaced.now.object ≡ source.now }
-    ensures { IfOk result (AreMoved unplaced.now offsets.now) }
+    requires { IsArrangementOf unplaced.now arrangement.now }
+    ensures { IfOk result (AreMoved unplaced.now arrangement.now.offsets) }
 {
     let records = &unplaced.records;
-    let functions = moved_functions(alloc, source, offsets, records.functions.as_slice())?;
-    let branches = moved_kinds(alloc, source, offsets, records.branches.as_slice())?;
+    let functions = arrangement.moved_functions(alloc, records.functions.as_slice())?;
+    let branches = arrangement.moved_kinds(alloc, records.branches.as_slice())?;
     Ok(Records {
         functions: Items::from_vec(functions),
         branches: Items::from_vec(branches),
@@ -99,13 +96,13 @@ pub fn instrument(alloc: Global, unplaced: &Module) -> Result<Module, InstrFault
     let source = read_items(alloc, unplaced)?;
     let symbols = unplaced.object.symbols.as_slice();
     let (long, offsets) = least_long(alloc, &source, symbols)?;
-    let records = records_of(alloc, &source, unplaced, &offsets)?;
     let arrangement = Arrangement {
         source: &source,
         symbols,
         long: &long,
         offsets: &offsets,
     };
+    let records = records_of(alloc, &arrangement, unplaced)?;
     let object = object_of(alloc, &arrangement, unplaced, &records)?;
     let types = unplaced.types.copied(alloc)?;
     Ok(Module {

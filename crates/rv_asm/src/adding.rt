@@ -5,41 +5,27 @@ ghost use Rattle.rv_asm.specs.inner.Passes.{or_range, Gives};
 
 use crate::draft::Draft;
 use crate::fault::AsmFault;
-use crate::file::File;
 use crate::node::callable_in;
-use crate::spot::Spot;
+use crate::step::Step;
 use crate::switch::values_of;
 use cfi_aux::Kind;
 use rv_line::Statement;
-use std::alloc::Global;
 
 impl Draft {
     /// Adds what a statement makes.
-    pub fn add(
-        &mut self,
-        alloc: Global,
-        number: u32,
-        file: &File,
-        spot: Spot,
-        statement: &Statement,
-    ) -> Result<(), AsmFault>
-        ensures { Gives result self.new
-            (or_range number (with_statement file.now spot self.old statement.now)) }
+    pub fn add(&mut self, step: &Step, statement: &Statement) -> Result<(), AsmFault>
+        ensures { let row = step.now.row.now in Gives result self.new (or_range row.number
+            (with_statement step.now.file.now row.spot self.old statement.now)) }
     {
+        let number = step.row.number;
+        let file = step.file;
         match statement {
             Statement::Blank | Statement::Text | Statement::Data | Statement::Globl(_) => Ok(()),
-            Statement::Word(datum) => self.add_word(alloc, number, file, spot, statement, datum),
-            Statement::Zero(count) => self.add_zeros(number, spot, *count),
-            Statement::Node { kind, fields } => self.add_node(
-                alloc,
-                number,
-                *kind,
-                fields.as_slice(),
-            ),
-            Statement::Func { name, node, taken } => self.begin_function(
-                alloc, number, file, spot, name, *node, *taken,
-            ),
-            Statement::EndFunc => self.end_function(spot),
+            Statement::Word(datum) => self.add_word(step, statement, datum),
+            Statement::Zero(count) => self.add_zeros(step, *count),
+            Statement::Node { kind, fields } => self.add_node(step, *kind, fields.as_slice()),
+            Statement::Func { name, node, taken } => self.begin_function(step, name, *node, *taken),
+            Statement::EndFunc => self.end_function(step.row.spot),
             Statement::KindCall(node) => self.set_kind(
                 number,
                 callable_in(file.kinds.as_slice(), *node).map(Kind::Call),
@@ -50,12 +36,12 @@ impl Draft {
             ),
             Statement::KindReturn => self.set_kind(number, Some(Kind::Return)),
             Statement::KindSwitch(names) => {
-                let values = values_of(alloc, &file.names, names.as_slice())?;
+                let values = values_of(step.alloc, &file.names, names.as_slice())?;
                 self.set_switch(number, values)
             }
             Statement::Jalr { .. } | Statement::Ret => {
                 self.add_jump(number, file.records)?;
-                self.add_code(alloc, number, file, spot, statement)
+                self.add_code(step, statement)
             }
             Statement::Op { .. }
             | Statement::OpImm { .. }
@@ -71,7 +57,7 @@ impl Draft {
             | Statement::Li { .. }
             | Statement::La { .. }
             | Statement::Call(_)
-            | Statement::Tail(_) => self.add_code(alloc, number, file, spot, statement),
+            | Statement::Tail(_) => self.add_code(step, statement),
         }
     }
 }

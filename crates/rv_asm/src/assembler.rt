@@ -10,6 +10,7 @@ use crate::draft::Draft;
 use crate::fault::AsmFault;
 use crate::file::File;
 use crate::row::Row;
+use crate::step::Step;
 use crate::survey::survey_of;
 use cfi_word::limits::MAX_SYMBOLS;
 use elf_read::Object;
@@ -18,15 +19,16 @@ use std::alloc::Global;
 
 // Adds a line that has a statement, or answers the least of its faults.
 fn add_said(
-    alloc: Global,
     draft: &mut Draft,
-    file: &File,
+    step: &Step,
     rest: &[Row],
-    row: &Row,
     statement: &Statement,
 ) -> Result<(), AsmFault>
-    ensures { Gives result draft.new (with_said file.now draft.old rest.now row.now statement.now) }
+    ensures { Gives result draft.new
+        (with_said step.now.file.now draft.old rest.now step.now.row.now statement.now) }
 {
+    let file = step.file;
+    let row = step.row;
     if draft.is_astray(file, rest, row.spot, statement) {
         return Err(AsmFault::Syntax(row.number));
     }
@@ -39,7 +41,7 @@ fn add_said(
     if row.names as usize > MAX_SYMBOLS {
         return Err(AsmFault::Range(row.number));
     }
-    draft.add(alloc, row.number, file, row.spot, statement)
+    draft.add(step, statement)
 }
 
 fn add_row(
@@ -52,8 +54,9 @@ fn add_row(
     ensures { Gives result draft.new
         (with_row file.now draft.old rest.now row.now row.now.statement) }
 {
+    let step = Step { alloc, file, row };
     match &row.statement {
-        Some(statement) => add_said(alloc, draft, file, rest, row, statement),
+        Some(statement) => add_said(draft, &step, rest, statement),
         None => Err(AsmFault::Syntax(row.number)),
     }
 }

@@ -7,9 +7,8 @@ ghost use Rattle.rv_asm.specs.inner.Passes.{or_range, Gives};
 
 use crate::code::words_of;
 use crate::fault::AsmFault;
-use crate::file::File;
 use crate::relocs::{reloc_by, relocs_of};
-use crate::spot::Spot;
+use crate::step::Step;
 use crate::words::{Words, low_word};
 use cfi_aux::{Function, Kind};
 use cfi_type_table::TypeNode;
@@ -74,18 +73,13 @@ impl Draft {
     }
 
     // Adds words of text with their relocations.
-    fn add_words(
-        &mut self,
-        number: u32,
-        spot: Spot,
-        added: &[Reloc],
-        words: Words,
-    ) -> Result<(), AsmFault>
+    fn add_words(&mut self, step: &Step, added: &[Reloc], words: Words) -> Result<(), AsmFault>
         requires { length added.now ≤ 2 }
-        ensures { Gives result self.new
-            (or_range number (with_words spot self.old added.now words)) }
+        ensures { let row = step.now.row.now in Gives result self.new
+            (or_range row.number (with_words row.spot self.old added.now words)) }
     {
-        let end = spot.text_end as usize + words.size() as usize;
+        let number = step.row.number;
+        let end = step.row.spot.text_end as usize + words.size() as usize;
         if end > 4 * MAX_WORDS || !self.has_relocs(added.len()) {
             return Err(AsmFault::Range(number));
         }
@@ -95,25 +89,21 @@ impl Draft {
     }
 
     // Adds the words of a statement.
-    pub(crate) fn add_code(
-        &mut self,
-        alloc: Global,
-        number: u32,
-        file: &File,
-        spot: Spot,
-        statement: &Statement,
-    ) -> Result<(), AsmFault>
-        ensures { Gives result self.new
-            (or_range number (with_code file.now spot self.old statement.now)) }
+    pub(crate) fn add_code(&mut self, step: &Step, statement: &Statement) -> Result<(), AsmFault>
+        ensures { let row = step.now.row.now in Gives result self.new
+            (or_range row.number (with_code step.now.file.now row.spot self.old statement.now)) }
     {
-        let Some(words) = words_of(&file.names, spot.text_end, statement) else {
+        let number = step.row.number;
+        let spot = step.row.spot;
+        let names = &step.file.names;
+        let Some(words) = words_of(names, spot.text_end, statement) else {
             return Err(AsmFault::Range(number));
         };
         if spot.text_end as usize > 4 * MAX_WORDS {
             return Err(AsmFault::Range(number));
         }
-        let added = relocs_of(alloc, &file.names, spot, statement)?;
-        self.add_words(number, spot, added.as_slice(), words)
+        let added = relocs_of(step.alloc, names, spot, statement)?;
+        self.add_words(step, added.as_slice(), words)
     }
 
     // Gives the next indirect jump its kind.
@@ -132,17 +122,13 @@ impl Draft {
     }
 
     // Adds a word of data with its relocations.
-    fn add_data(
-        &mut self,
-        number: u32,
-        spot: Spot,
-        word: u32,
-        added: &[Reloc],
-    ) -> Result<(), AsmFault>
+    fn add_data(&mut self, step: &Step, word: u32, added: &[Reloc]) -> Result<(), AsmFault>
         requires { length added.now ≤ 2 }
-        ensures { Gives result self.new (or_range number (with_data spot self.old word added.now)) }
+        ensures { let row = step.now.row.now in Gives result self.new
+            (or_range row.number (with_data row.spot self.old word added.now)) }
     {
-        let end = spot.data_end as usize + 4;
+        let number = step.row.number;
+        let end = step.row.spot.data_end as usize + 4;
         if end > MAX_DATA || !self.has_relocs(added.len()) {
             return Err(AsmFault::Range(number));
         }
@@ -151,30 +137,26 @@ impl Draft {
         Ok(())
     }
 
-    fn add_datum(
-        &mut self,
-        number: u32,
-        file: &File,
-        spot: Spot,
-        datum: &Datum,
-    ) -> Result<(), AsmFault>
-        ensures { Gives result self.new
-            (or_range number (with_datum file.now.names spot self.old datum.now)) }
+    fn add_datum(&mut self, step: &Step, datum: &Datum) -> Result<(), AsmFault>
+        ensures { let row = step.now.row.now in Gives result self.new
+            (or_range row.number (with_datum step.now.file.now.names row.spot self.old datum.now)) }
     {
         match datum {
-            Datum::Number(value) => self.add_data(number, spot, low_word(*value), &[]),
+            Datum::Number(value) => self.add_data(step, low_word(*value), &[]),
             Datum::Name(name) => {
-                let reloc = reloc_by(&file.names, Area::Data, spot.data_end, WORD, name.as_str());
-                self.add_data(number, spot, 0, &[reloc])
+                let end = step.row.spot.data_end;
+                let reloc = reloc_by(&step.file.names, Area::Data, end, WORD, name.as_str());
+                self.add_data(step, 0, &[reloc])
             }
         }
     }
 
-    pub(crate) fn add_zeros(&mut self, number: u32, spot: Spot, count: i64) -> Result<(), AsmFault>
-        ensures { Gives result self.new (or_range number (with_zeros spot self.old count)) }
+    pub(crate) fn add_zeros(&mut self, step: &Step, count: i64) -> Result<(), AsmFault>
+        ensures { let row = step.now.row.now in Gives result self.new
+            (or_range row.number (with_zeros row.spot self.old count)) }
     {
-        if count < 0 || count > (MAX_DATA as i64) - i64::from(spot.data_end) {
-            return Err(AsmFault::Range(number));
+        if count < 0 || count > (MAX_DATA as i64) - i64::from(step.row.spot.data_end) {
+            return Err(AsmFault::Range(step.row.number));
         }
         let length = self.data_bytes.len() + count as usize;
         self.data_bytes.resize(length, 0)?;
@@ -183,20 +165,17 @@ impl Draft {
 
     pub(crate) fn add_word(
         &mut self,
-        alloc: Global,
-        number: u32,
-        file: &File,
-        spot: Spot,
+        step: &Step,
         statement: &Statement,
         datum: &Datum,
     ) -> Result<(), AsmFault>
         requires { statement.now ≡ statements.Word datum.now }
-        ensures { Gives result self.new
-            (or_range number (with_word spot.area file.now spot self.old datum.now)) }
+        ensures { let row = step.now.row.now in Gives result self.new (or_range row.number
+            (with_word row.spot.area step.now.file.now row.spot self.old datum.now)) }
     {
-        match spot.area {
-            Area::Text => self.add_code(alloc, number, file, spot, statement),
-            Area::Data => self.add_datum(number, file, spot, datum),
+        match step.row.spot.area {
+            Area::Text => self.add_code(step, statement),
+            Area::Data => self.add_datum(step, datum),
         }
     }
 }

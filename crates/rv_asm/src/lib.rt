@@ -24,6 +24,7 @@ mod reference;
 mod relocs;
 mod row;
 mod spot;
+mod step;
 mod survey;
 mod switch;
 mod words;

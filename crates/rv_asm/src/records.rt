@@ -9,28 +9,27 @@ ghost use Rattle.rv_asm.specs.inner.Passes.{or_range, Gives};
 
 use crate::draft::Draft;
 use crate::fault::AsmFault;
-use crate::file::File;
 use crate::node::{callable_in, node_of};
 use crate::spot::Spot;
+use crate::step::Step;
 use cfi_aux::{Function, Kind};
 use cfi_values::Items;
 use cfi_word::limits::{MAX_FUNCTIONS, MAX_NAME, MAX_NODES};
 use elf_read::Name;
 use rv_line::NodeKind;
-use std::alloc::Global;
 
 impl Draft {
     pub(crate) fn add_node(
         &mut self,
-        alloc: Global,
-        number: u32,
+        step: &Step,
         kind: NodeKind,
         fields: &[i64],
     ) -> Result<(), AsmFault>
         ensures { Gives result self.new
-            (or_range number (with_node self.old (node_of kind fields.now))) }
+            (or_range step.now.row.now.number (with_node self.old (node_of kind fields.now))) }
     {
-        let Some(node) = node_of(alloc, kind, fields)? else {
+        let number = step.row.number;
+        let Some(node) = node_of(step.alloc, kind, fields)? else {
             return Err(AsmFault::Range(number));
         };
         if self.nodes.len() >= MAX_NODES as usize {
@@ -42,30 +41,28 @@ impl Draft {
 
     pub(crate) fn begin_function(
         &mut self,
-        alloc: Global,
-        number: u32,
-        file: &File,
-        spot: Spot,
+        step: &Step,
         name: &Name,
         node: i64,
         taken: bool,
     ) -> Result<(), AsmFault>
-        ensures { Gives result self.new
-            (or_range number (with_function file.now.kinds spot self.old name.now node taken)) }
+        ensures { let row = step.now.row.now in Gives result self.new (or_range row.number
+            (with_function step.now.file.now.kinds row.spot self.old name.now node taken)) }
     {
+        let number = step.row.number;
         let name = name.as_str();
-        let Some(ty) = callable_in(file.kinds.as_slice(), node) else {
+        let Some(ty) = callable_in(step.file.kinds.as_slice(), node) else {
             return Err(AsmFault::Range(number));
         };
         if self.functions.len() >= MAX_FUNCTIONS as usize || name.len() > MAX_NAME as usize {
             return Err(AsmFault::Range(number));
         }
         self.function = Some(Function {
-            offset: spot.text_end,
+            offset: step.row.spot.text_end,
             length: 0,
             ty,
             taken,
-            name: Name::from_string(String::from_str(alloc, name)?),
+            name: Name::from_string(String::from_str(step.alloc, name)?),
         });
         Ok(())
     }

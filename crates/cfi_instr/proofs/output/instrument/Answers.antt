@@ -14,14 +14,14 @@ object_of-requires-clause-fits c =
     let long = c.in_ok-long.long.items in
     let offsets = c.in_ok-long.offsets.items in
     let made = c.in_ok-long.ensures in
-    subst (λ (xs : List ℕ). AllSpell t symbols c.deref-2.result.now xs) (sym c.deref-3.ensures.value)
-    (subst (λ (bs : List Bool). AllSpell t symbols bs offsets) (sym c.deref-2.ensures.value)
+    subst (λ (xs : List ℕ). AllSpell t symbols c.deref.result.now xs) (sym c.deref-2.ensures.value)
+    (subst (λ (bs : List Bool). AllSpell t symbols bs offsets) (sym c.deref.ensures.value)
     (spells-all c.args.unplaced.now t symbols long offsets c.in_ok-source.ensures.ok c.in_ok-source.ensures.range
     c.in_ok-source.ensures.sound made.least made.fits made.small made.placed))
 
 pub object_of-requires-clause-written : goal.object_of-requires-clause-written
 object_of-requires-clause-written c =
-    moved-written c.args.unplaced.now c.deref.result.now c.in_ok-records.records c.in_ok-records.ensures
+    moved-written c.args.unplaced.now c.deref-2.result.now c.in_ok-records.records c.in_ok-records.ensures
     c.requires.written
 
 pub returns-clause-ok : goal.returns-clause-ok
@@ -43,11 +43,11 @@ returns-clause-ok c =
           subst (λ (x : Words). words_before x long (count_of x) ≤ MAX_WORDS) c.in_ok-source.ensures.ok
           c.in_ok-long.ensures.fits;
       object =
-          subst (λ (bs : List Bool). IsObject m bs offsets records object) c.deref-2.ensures.value
-          (subst (λ (xs : List ℕ). IsObject m c.deref-2.result.now xs records object) c.deref-3.ensures.value
+          subst (λ (bs : List Bool). IsObject m bs offsets records object) c.deref.ensures.value
+          (subst (λ (xs : List ℕ). IsObject m c.deref.result.now xs records object) c.deref-2.ensures.value
           c.in_ok-object.ensures);
       types = c.in_ok-types.ensures;
-      records = subst (λ (xs : List ℕ). AreMoved m xs records) c.deref.ensures.value c.in_ok-records.ensures;
+      records = subst (λ (xs : List ℕ). AreMoved m xs records) c.deref-2.ensures.value c.in_ok-records.ensures;
     }
 
 pub invariant_of-result : goal.invariant_of-result
@@ -57,6 +57,6 @@ invariant_of-result c =
     let records = c.in_ok-records.records in
     record {
       cells =
-          cells-moved m (read_words m.object) c.deref.result.now object.static_data records.branches
+          cells-moved m (read_words m.object) c.deref-2.result.now object.static_data records.branches
           c.in_ok-object.ensures.static_data c.in_ok-records.ensures.branches;
     }

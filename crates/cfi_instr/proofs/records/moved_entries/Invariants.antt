@@ -1,6 +1,0 @@
-use Rattle.std.proofs.Common.{◌≡◌, map, take}
-use Rattle.cfi_instr.specs.Sizes.{moved}
-use Rattle.cfi_instr.proofs.records.moved_entries.Given as goal
-
-abbrev pub invariant-loop-entry : goal.invariant-loop-entry
-invariant-loop-entry l = l.found.items ≡ map (moved l.source l.offsets) (take l.entry-index l.entries)
