@@ -1,0 +1,12 @@
+pub mod YesLemmas
+pub mod ItemLemmas
+pub mod ScriptLemmas
+pub mod GuestLemmas
+pub mod MeetingLemmas
+pub mod LineLemmas
+pub mod WalkLemmas
+pub mod StepLemmas
+pub mod ModulesLemmas
+pub mod LogLemmas
+pub mod CourseLemmas
+pub mod SpanLemmas

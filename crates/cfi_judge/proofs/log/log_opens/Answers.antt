@@ -1,0 +1,11 @@
+use Rattle.cfi_ledger.specs.Roster.{loaded_in_roster}
+use Rattle.cfi_judge.specs.Log.{HasOpens}
+use Rattle.cfi_judge.proofs.LogLemmas.{opens_all}
+use Rattle.cfi_judge.proofs.YesLemmas.{yes}
+use Rattle.cfi_judge.proofs.log.log_opens.Goals as goal
+
+pub returns : goal.returns
+returns c =
+    yes (HasOpens (loaded_in_roster c.args.roster.now) c.args.log.now)
+    (opens_all (loaded_in_roster c.args.roster.now) c.args.log.now c.loop-entry.entry-index c.loop-entry-test.false
+    c.loop-entry.invariant)

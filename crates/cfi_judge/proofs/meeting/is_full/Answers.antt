@@ -1,0 +1,23 @@
+use Rattle.std.proofs.Common.{arith}
+use Rattle.cfi_ledger.specs.Roster.{loaded_in_roster}
+use Rattle.cfi_valid.specs.Joining.{IsFull}
+use Rattle.cfi_judge.proofs.MeetingLemmas.{again_not_full, full, open_not_full}
+use Rattle.cfi_judge.proofs.YesLemmas.{refuted, yes}
+use Rattle.cfi_judge.proofs.meeting.is_full.Goals as goal
+
+pub returns-in-Again : goal.returns-in-Again
+returns-in-Again c =
+    refuted (IsFull c.args.modules.now (loaded_in_roster c.args.roster.now) c.args.number)
+    (again_not_full c.args.roster.now c.requires c.args.number c.args.modules.now c.in-Again.field-0
+    c.in-Again.ensures)
+
+pub returns-in-Full : goal.returns-in-Full
+returns-in-Full c =
+    yes (IsFull c.args.modules.now (loaded_in_roster c.args.roster.now) c.args.number)
+    (full c.args.roster.now c.requires c.args.number c.args.modules.now (omega (arith, c.if-number-modules.false))
+    c.in-Full.ensures)
+
+pub returns-in-Open : goal.returns-in-Open
+returns-in-Open c =
+    refuted (IsFull c.args.modules.now (loaded_in_roster c.args.roster.now) c.args.number)
+    (open_not_full c.args.roster.now c.requires c.args.number c.args.modules.now c.in-Open.ensures)

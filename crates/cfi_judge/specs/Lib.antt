@@ -1,0 +1,6 @@
+pub mod Guests
+pub mod Reached
+pub mod Journal
+pub mod Steps
+pub mod Log
+pub mod inner

@@ -1,0 +1,8 @@
+-- What only private clauses cite.
+pub mod Faults
+pub mod Guests
+pub mod Meets
+pub mod Lines
+pub mod Walk
+pub mod Steps
+pub mod Log

@@ -1,0 +1,51 @@
+-- Lines of a journal where they stand: what they change, when one that changes nothing is legal, and why one is not
+-- taken.
+use Rattle.std.specs.Prelude.{List}
+use Rattle.cfi_aux.specs.declared.modules.Module.{Module}
+use Rattle.cfi_plan.specs.declared.journal.Entry.{Entry}
+use Rattle.cfi_plan.specs.declared.journal.JournalLine.{JournalLine}
+use Rattle.cfi_plan.specs.declared.journal.JournalLine.TheVariants.{LoadOk, LoadAgain, LoadFull, LoadPlace, LoadVerify, LoadVersions, LoadEpochs, RefreshOk, RefreshVersions, RefreshEpochs}
+use Rattle.cfi_plan.specs.declared.plan.Plan.{Plan}
+use Rattle.cfi_modules.specs.declared.numbers.FaultNumbers.TheVariants.{Place, Verify}
+use Rattle.cfi_valid.specs.Joining.{IsFull, HasFault}
+use Rattle.cfi_valid.specs.Journal.{JournalState, IsAgain, IsClean, IsOutOfEpochs, IsTooOld, EntryLeads, LineLeads}
+use Rattle.cfi_judge.specs.declared.entries.Change.{Change}
+use Rattle.cfi_judge.specs.declared.entries.Change.TheVariants as changes
+use Rattle.cfi_judge.specs.declared.fault.LineFault.{LineFault}
+use Rattle.cfi_judge.specs.inner.Faults.{Refutes}
+
+-- what a line changes: a case a line
+abbrev pub change_of : JournalLine → Change
+change_of (LoadOk number epoch policy) = changes.Module number epoch policy
+change_of (LoadAgain number policy) = changes.Nothing
+change_of (LoadFull number) = changes.Nothing
+change_of (LoadPlace number fault) = changes.Nothing
+change_of (LoadVerify number fault place) = changes.Nothing
+change_of (LoadVersions number guest quiet) = changes.Nothing
+change_of (LoadEpochs number) = changes.Nothing
+change_of (RefreshOk epoch) = changes.Epoch epoch
+change_of (RefreshVersions guest quiet) = changes.Nothing
+change_of RefreshEpochs = changes.Nothing
+
+-- the line tells of a refusal, or of a module that is loaded already, and is legal: a case a line
+abbrev pub IsRefusal : Plan → List Module → JournalState → JournalLine → Type 0
+IsRefusal plan modules s (LoadOk number epoch policy) = ⊥
+IsRefusal plan modules s (LoadAgain number policy) = IsAgain s number policy
+IsRefusal plan modules s (LoadFull number) = IsFull modules s.loaded number
+IsRefusal plan modules s (LoadPlace number fault) = HasFault plan.code_words modules s.loaded number (Place fault)
+IsRefusal plan modules s (LoadVerify number fault place) =
+    HasFault plan.code_words modules s.loaded number (Verify fault place)
+IsRefusal plan modules s (LoadVersions number guest quiet) =
+    IsTooOld plan s guest quiet × IsClean plan modules s number
+IsRefusal plan modules s (LoadEpochs number) = IsOutOfEpochs s × IsClean plan modules s number
+IsRefusal plan modules s (RefreshOk epoch) = ⊥
+IsRefusal plan modules s (RefreshVersions guest quiet) = IsTooOld plan s guest quiet
+IsRefusal plan modules s RefreshEpochs = IsOutOfEpochs s
+
+-- no state comes of a line
+abbrev pub IsLineFault : Plan → List Module → JournalState → JournalLine → LineFault → Type 0
+IsLineFault plan modules s line fault = Refutes ((new : JournalState) × LineLeads plan modules s line new) fault
+
+-- no state comes of an entry
+abbrev pub IsEntryFault : Plan → List Module → JournalState → Entry → LineFault → Type 0
+IsEntryFault plan modules s entry fault = Refutes ((new : JournalState) × EntryLeads plan modules s entry new) fault

@@ -1,0 +1,204 @@
+//! Entries of a journal, one after the other.
+
+ghost use Rattle.std.specs.Prelude.{◌≡◌, ◌≢◌, ◌↔◌, IfErr, IfOk, IsTrue};
+ghost use Rattle.cfi_judge.specs.inner.Lines.{IsEntryFault, IsLineFault, change_of};
+ghost use Rattle.cfi_judge.specs.Reached.{StandsIn, state_of};
+ghost use Rattle.cfi_judge.specs.declared.entries.Change.TheVariants.{Nothing};
+ghost use Rattle.cfi_judge.specs.declared.fault.LineFault.TheVariants.{Illegal};
+ghost use Rattle.cfi_ledger.specs.Plans.{CanStart};
+ghost use Rattle.cfi_plan.specs.declared.journal.JournalLine.TheVariants.{LoadOk, RefreshOk};
+ghost use Rattle.cfi_modules.specs.declared.fault.JoinFault.TheVariants.{Memory};
+ghost use Rattle.cfi_valid.specs.Journal.{EntryLeads, LineLeads, MayAsk, is_load};
+
+use crate::fault::{LineFault, must};
+use crate::meeting::is_unloaded;
+use crate::reached::Reached;
+use cfi_aux::Module;
+use cfi_ledger::Entrant;
+use cfi_modules::JoinFault;
+use cfi_plan::{Entry, JournalLine, Plan, Who};
+
+// What a line changes.
+#[derive(Clone, Copy)]
+enum Change {
+    // A module is loaded, in a new epoch.
+    Module {
+        number: u32,
+        epoch: u32,
+        policy: u32,
+    },
+    // There is a new epoch.
+    Epoch(u32),
+    Nothing,
+}
+
+// What a line changes.
+fn change_of(line: JournalLine) -> Change
+    ensures { result ≡ change_of line }
+{
+    match line {
+        JournalLine::LoadOk {
+            module,
+            epoch,
+            policy,
+        } => Change::Module {
+            number: module,
+            epoch,
+            policy,
+        },
+        JournalLine::RefreshOk { epoch } => Change::Epoch(epoch),
+        JournalLine::LoadAgain { .. } => Change::Nothing,
+        JournalLine::LoadFull { .. } => Change::Nothing,
+        JournalLine::LoadPlace { .. } => Change::Nothing,
+        JournalLine::LoadVerify { .. } => Change::Nothing,
+        JournalLine::LoadVersions { .. } => Change::Nothing,
+        JournalLine::LoadEpochs { .. } => Change::Nothing,
+        JournalLine::RefreshVersions { .. } => Change::Nothing,
+        JournalLine::RefreshEpochs => Change::Nothing,
+    }
+}
+
+// A load was asked for.
+fn is_load(line: JournalLine) -> bool
+    ensures { result ≡ is_load line }
+{
+    match line {
+        JournalLine::LoadOk { .. } => true,
+        JournalLine::LoadAgain { .. } => true,
+        JournalLine::LoadFull { .. } => true,
+        JournalLine::LoadPlace { .. } => true,
+        JournalLine::LoadVerify { .. } => true,
+        JournalLine::LoadVersions { .. } => true,
+        JournalLine::LoadEpochs { .. } => true,
+        JournalLine::RefreshOk { .. } => false,
+        JournalLine::RefreshVersions { .. } => false,
+        JournalLine::RefreshEpochs => false,
+    }
+}
+
+// Who asked may ask.
+fn may_ask(plan: &Plan, entry: &Entry) -> bool
+    ensures { IsTrue result ↔ MayAsk plan.now entry.now.who entry.now.what }
+{
+    match entry.who {
+        Who::Script => true,
+        Who::Guest(number) => (number as usize) < plan.guests.len() && is_load(entry.what),
+    }
+}
+
+// The fault of a load of a module that does not join.
+fn unjoined(fault: &JoinFault) -> LineFault
+    ensures { result ≡ Illegal → fault.now ≢ Memory }
+{
+    match fault.numbers() {
+        Some(_) => LineFault::Illegal,
+        None => LineFault::Memory,
+    }
+}
+
+impl Reached {
+    // With one module more, in a new epoch.
+    fn load(
+        self,
+        plan: &Plan,
+        modules: &[Module],
+        number: u32,
+        epoch: u32,
+        policy: u32,
+    ) -> Result<Reached, LineFault>
+        requires can { CanStart plan.now modules.now }
+        requires stands { StandsIn plan.now self }
+        ensures ok { IfOk result (λ new. LineLeads plan.now modules.now (state_of self)
+            (LoadOk number epoch policy) (state_of new)) }
+        ensures stands { IfOk result (StandsIn plan.now) }
+        ensures fault { IfErr result (IsLineFault plan.now modules.now (state_of self)
+            (LoadOk number epoch policy)) }
+    {
+        must(self.is_next_epoch(epoch))?;
+        must(self.is_next_policy(policy))?;
+        must(is_unloaded(&self.roster, modules, number))?;
+        let entrant = Entrant::of(plan, number, policy);
+        match self.roster.add(&entrant, &modules[number as usize]) {
+            Ok(roster) => Ok(Reached {
+                epoch,
+                policy,
+                roster,
+            }),
+            Err(fault) => Err(unjoined(&fault)),
+        }
+    }
+
+    // In a new epoch.
+    fn refresh(self, plan: &Plan, modules: &[Module], epoch: u32) -> Result<Reached, LineFault>
+        requires stands { StandsIn plan.now self }
+        ensures ok { IfOk result (λ new. LineLeads plan.now modules.now (state_of self)
+            (RefreshOk epoch) (state_of new)) }
+        ensures stands { IfOk result (StandsIn plan.now) }
+        ensures fault { IfErr result (IsLineFault plan.now modules.now (state_of self)
+            (RefreshOk epoch)) }
+    {
+        must(self.is_next_epoch(epoch))?;
+        Ok(Reached {
+            epoch,
+            policy: self.policy,
+            roster: self.roster,
+        })
+    }
+
+    // After a line that changes nothing.
+    fn stay(
+        mut self,
+        plan: &Plan,
+        modules: &[Module],
+        line: JournalLine,
+    ) -> Result<Reached, LineFault>
+        requires can { CanStart plan.now modules.now }
+        requires stands { StandsIn plan.now self }
+        requires same { change_of line ≡ Nothing }
+        ensures ok { IfOk result (λ new. LineLeads plan.now modules.now (state_of self)
+            line (state_of new)) }
+        ensures stands { IfOk result (StandsIn plan.now) }
+        ensures fault { IfErr result (IsLineFault plan.now modules.now (state_of self) line) }
+    {
+        self.must_refuse(plan, modules, line)?;
+        Ok(self)
+    }
+
+    // After a line.
+    fn go(self, plan: &Plan, modules: &[Module], line: JournalLine) -> Result<Reached, LineFault>
+        requires can { CanStart plan.now modules.now }
+        requires stands { StandsIn plan.now self }
+        ensures ok { IfOk result (λ new. LineLeads plan.now modules.now (state_of self)
+            line (state_of new)) }
+        ensures stands { IfOk result (StandsIn plan.now) }
+        ensures fault { IfErr result (IsLineFault plan.now modules.now (state_of self) line) }
+    {
+        match change_of(line) {
+            Change::Module {
+                number,
+                epoch,
+                policy,
+            } => self.load(plan, modules, number, epoch, policy),
+            Change::Epoch(epoch) => self.refresh(plan, modules, epoch),
+            Change::Nothing => self.stay(plan, modules, line),
+        }
+    }
+
+    /// The state to which an entry leads, where it is legal.
+    pub(crate) fn lead(
+        self,
+        plan: &Plan,
+        modules: &[Module],
+        entry: &Entry,
+    ) -> Result<Reached, LineFault>
+        requires can { CanStart plan.now modules.now }
+        requires stands { StandsIn plan.now self }
+        ensures ok { IfOk result (λ new. EntryLeads plan.now modules.now (state_of self)
+            entry.now (state_of new)) }
+        ensures stands { IfOk result (StandsIn plan.now) }
+        ensures fault { IfErr result (IsEntryFault plan.now modules.now (state_of self) entry.now) }
+    {
+        must(may_ask(plan, entry))?;
+        self.go(plan, modules, entry.what)
+    }
+}

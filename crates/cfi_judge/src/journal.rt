@@ -1,0 +1,106 @@
+//! The journal.
+
+ghost use Rattle.std.specs.Prelude.{◌≡◌, ◌↔◌, ℕ, IfErr, IfOk, IsTrue, OnErr, OnOk, length};
+ghost use Rattle.cfi_judge.specs.Journal.{IsJournalFault, HasForce};
+ghost use Rattle.cfi_judge.specs.inner.Walk.{at_line, IsWalkFault};
+ghost use Rattle.cfi_judge.specs.Reached.{StandsIn, state_of};
+ghost use Rattle.cfi_judge.specs.declared.fault.JournalFault.TheVariants.{Line};
+ghost use Rattle.cfi_ledger.specs.Plans.{CanStart};
+ghost use Rattle.cfi_ledger.specs.Starts.{AreStarted};
+ghost use Rattle.cfi_valid.specs.Journal.{JournalState, EntriesLead};
+ghost use Rattle.cfi_valid.specs.Valid.{HasJournal};
+
+use crate::fault::{JournalFault, LineFault};
+use crate::reached::Reached;
+use cfi_aux::Module;
+use cfi_ledger::Roster;
+use cfi_plan::{Entry, Plan};
+use cfi_report::Report;
+
+// The fault of the journal whose line of this number has a fault.
+fn at_line(number: usize, fault: LineFault) -> JournalFault
+    ensures { result ≡ at_line number fault }
+{
+    match fault {
+        LineFault::Illegal => JournalFault::Line(number),
+        LineFault::Memory => JournalFault::Memory,
+    }
+}
+
+// The state to which all lines lead.
+fn follow(
+    start: Reached,
+    plan: &Plan,
+    modules: &[Module],
+    journal: &[Entry],
+) -> Result<Reached, JournalFault>
+    requires can { CanStart plan.now modules.now }
+    requires stands { StandsIn plan.now start }
+    ensures ok { IfOk result (λ end. EntriesLead plan.now modules.now (state_of start)
+        journal.now (state_of end)) }
+    ensures stands { IfOk result (StandsIn plan.now) }
+    ensures fault { IfErr result
+        (IsWalkFault plan.now modules.now (state_of start) journal.now) }
+{
+    let mut reached = start;
+    for (number, entry) in journal.iter().enumerate() {
+        reached = match reached.lead(plan, modules, entry) {
+            Ok(next) => next,
+            Err(fault) => return Err(at_line(number, fault)),
+        };
+    }
+    Ok(reached)
+}
+
+impl Reached {
+    // The force of a report is that of the state.
+    fn has_force(&self, report: &Report) -> bool
+        ensures { IsTrue result ↔ HasForce report.now (state_of self.now) }
+    {
+        report.epoch == self.epoch && report.policy == self.policy
+    }
+
+    // The state, where its force is that of the report.
+    fn with_force(self, report: &Report) -> Result<Reached, JournalFault>
+        ensures same { IfOk result (λ end. end ≡ self) }
+        ensures ok { OnOk result (HasForce report.now (state_of self)) }
+        ensures fault { IfErr result (λ fault. fault ≡ Line (length report.now.journal)) }
+        ensures other { OnErr result (¬ HasForce report.now (state_of self)) }
+    {
+        if self.has_force(report) {
+            return Ok(self);
+        }
+        Err(JournalFault::Line(report.journal.len()))
+    }
+}
+
+/// The state to which the journal of a report leads, each line being legal where it stands, where its force is that of
+/// the report; else the first line that is not legal, or the number of lines where the force is another.
+///
+/// `roster` has the start modules of the plan, and `modules` are those of the plan, one a line.
+pub fn journal_end(
+    plan: &Plan,
+    modules: &[Module],
+    roster: Roster,
+    report: &Report,
+) -> Result<Reached, JournalFault>
+    requires can { CanStart plan.now modules.now }
+    requires started { AreStarted plan.now modules.now (length plan.now.modules) roster }
+    ensures ok { IfOk result (λ end.
+        HasJournal plan.now modules.now report.now (state_of end)) }
+    ensures stands { IfOk result (StandsIn plan.now) }
+    ensures fault { IfErr result (IsJournalFault plan.now modules.now report.now) }
+    ensures only { (number : ℕ) (end : JournalState) →
+        HasJournal plan.now modules.now report.now end →
+        IfErr result (λ fault. ¬ (fault ≡ Line number)) }
+{
+    let start = Reached {
+        epoch: plan.first,
+        policy: 0,
+        roster,
+    };
+    match follow(start, plan, modules, report.journal.as_slice()) {
+        Ok(end) => end.with_force(report),
+        Err(fault) => Err(fault),
+    }
+}

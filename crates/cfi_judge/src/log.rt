@@ -1,0 +1,107 @@
+//! The log of a guest, but for the causes of its opens.
+
+ghost use Rattle.std.specs.Prelude.{◌≡◌, ◌↔◌, IsTrue};
+ghost use Rattle.cfi_judge.specs.Log.{HasOpens, HasRisen};
+ghost use Rattle.cfi_judge.specs.inner.Log.{HasOpen, IsThere};
+ghost use Rattle.cfi_judge.specs.Reached.{IsLined};
+ghost use Rattle.cfi_ledger.specs.Roster.{loaded_in_roster};
+ghost use Rattle.cfi_model.specs.Log.{policy_after};
+ghost use Rattle.cfi_modules.specs.Entry.{HasAddresses, IsFirstOf, IsGlobal};
+ghost use Rattle.cfi_valid.specs.Loaded.{loaded_by};
+ghost use Rattle.cfi_valid.specs.Log.{HasFunctionAt};
+
+use cfi_aux::Placed;
+use cfi_ledger::Roster;
+use cfi_modules::{first_global, loaded_have_entries};
+use cfi_plan::ModuleLine;
+use cfi_unit::Log;
+
+/// The policy that is logged last, with an entry more.
+pub(crate) fn policy_after(before: u32, entry: &Log) -> u32
+    ensures { result ≡ policy_after before entry.now }
+{
+    match entry {
+        Log::Pick { policy, .. } => *policy,
+        Log::Open { policy, .. } => *policy,
+        Log::Cause { .. } => before,
+    }
+}
+
+/// Whether the policies of a log never fall, and none is above the one in force.
+pub fn log_rises(force: u32, log: &[Log]) -> bool
+    ensures { IsTrue result ↔ HasRisen force log.now }
+{
+    let mut before = 0;
+    for entry in log {
+        let next = policy_after(before, entry);
+        if next < before {
+            return false;
+        }
+        before = next;
+    }
+    before <= force
+}
+
+// The address is that of the module's first Global function.
+fn begins_at(placed: &Placed, address: u32) -> bool
+    requires { HasAddresses placed.now }
+    ensures { IsTrue result ↔ IsFirstOf IsGlobal placed.now address }
+{
+    first_global(placed) == Some(address)
+}
+
+// The module at a place in load order is that of this number, it came with this policy or before it, and the address is
+// that of its first Global function.
+fn is_open_at(line: &ModuleLine, placed: &Placed, number: u32, address: u32, policy: u32) -> bool
+    requires { HasAddresses placed.now }
+    ensures { IsTrue result ↔ IsThere (λ p. IsFirstOf IsGlobal p address)
+        line.now placed.now number policy }
+{
+    line.number == number && line.policy <= policy && begins_at(placed, address)
+}
+
+// A module of this number is loaded by the policy, and the address is that of its first Global function.
+fn has_function_at(roster: &Roster, number: u32, address: u32, policy: u32) -> bool
+    requires { IsLined roster.now }
+    ensures { IsTrue result ↔ HasFunctionAt
+        (loaded_by policy (loaded_in_roster roster.now)) number address }
+{
+    loaded_have_entries();
+    let lines = roster.lines();
+    let modules = roster.modules();
+    for at in 0..lines.len() {
+        if is_open_at(&lines[at], &modules[at], number, address, policy) {
+            return true;
+        }
+    }
+    false
+}
+
+// What an entry says is open is so.
+fn is_opened(roster: &Roster, entry: &Log) -> bool
+    requires { IsLined roster.now }
+    ensures { IsTrue result ↔ HasOpen (loaded_in_roster roster.now) entry.now }
+{
+    match entry {
+        Log::Pick { .. } => true,
+        Log::Open {
+            module,
+            address,
+            policy,
+        } => has_function_at(roster, *module, *address, *policy),
+        Log::Cause { .. } => true,
+    }
+}
+
+/// Whether each module that a log says was opened is loaded by the policy of its entry, where the log says.
+pub fn log_opens(roster: &Roster, log: &[Log]) -> bool
+    requires { IsLined roster.now }
+    ensures { IsTrue result ↔ HasOpens (loaded_in_roster roster.now) log.now }
+{
+    for entry in log {
+        if !is_opened(roster, entry) {
+            return false;
+        }
+    }
+    true
+}
