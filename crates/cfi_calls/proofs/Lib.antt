@@ -1,2 +1,1 @@
 pub mod HandMadeLemmas
-mod ChainLemmas

@@ -1,6 +1,6 @@
 //! Modules that are written by hand, by units.
 
-ghost use Rattle.std.specs.Prelude.{◌≡◌, ◌<◌, ◌≤◌, ℕ, false, [], ◌∷◌, map, take, IfOk, IsTrue};
+ghost use Rattle.std.specs.Prelude.{◌≡◌, ◌<◌, ◌≤◌, false, [], ◌∷◌, map, IfOk, IsTrue};
 ghost use Rattle.std.specs.List.{flat_map, AllByRecursion};
 ghost use Rattle.cfi_unit.specs.Unit.{IsUnit, words_of};
 ghost use Rattle.cfi_unit.specs.declared.unit.Unit.TheVariants.{Jump};
@@ -144,50 +144,4 @@ pub fn jump(alloc: Global, base: u32, off: i32) -> Result<Placed, AllocError>
     let code = [Unit::Jump { link: false, off }];
     let types = TypeTable::from_vec(Vec::new(alloc));
     module_of(alloc, base, 0, &code, &[], Vec::new(alloc), types)
-}
-
-/// A function that returns, one in a second module that jumps to it, and one in a third that jumps to that and is
-/// called there.
-pub fn tail_calls(alloc: Global) -> Result<Vec<Placed>, AllocError>
-    ensures { IfOk result (λ modules. (n : ℕ) → HaveImage (take n modules.items) 1024) }
-{
-    low_modules_have_image();
-    let returns = [Unit::Check {
-        link: false,
-        rs1: 1,
-        imm: 0,
-        slot: 0,
-    }];
-    let passes = [Unit::Jump {
-        link: false,
-        off: -56,
-    }];
-    let calls = [
-        Unit::Jump { link: true, off: 8 },
-        Unit::Jump {
-            link: false,
-            off: 0,
-        },
-        Unit::Jump {
-            link: false,
-            off: -12,
-        },
-    ];
-    let kinds = vec![in alloc; Kind::Return]?;
-    let types = void_and_function(alloc)?;
-    let first = module_of(alloc, 16, 0, &returns, &[(0, 14, 1, false)], kinds, types)?;
-    let types = void_and_function(alloc)?;
-    let second = module_of(
-        alloc,
-        30,
-        1,
-        &passes,
-        &[(0, 1, 1, false)],
-        Vec::new(alloc),
-        types,
-    )?;
-    let rows = [(0, 2, 1, false), (2, 1, 1, false)];
-    let types = void_and_function(alloc)?;
-    let third = module_of(alloc, 31, 1, &calls, &rows, Vec::new(alloc), types)?;
-    Ok(vec![in alloc; first, second, third]?)
 }

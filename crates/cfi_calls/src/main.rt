@@ -93,7 +93,6 @@ fn tell_policies(rt: &HostRuntime, alloc: Global) -> io::Result<()> {
         policies::new_edges(alloc)?,
     )?;
     tell(rt, "a book of modules", policies::book(alloc)?)?;
-    tell(rt, "a chain of tail calls", policies::chain(alloc)?)?;
     tell(rt, "first users", retiring::users(alloc)?)?;
     tell(rt, "live modules", retiring::live(alloc)?)?;
     tell(rt, "turns of a world", worlds::turns(alloc)?)

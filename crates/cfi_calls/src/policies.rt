@@ -1,10 +1,10 @@
 //! Images of modules and the policies of their direct edges, of modules that are written by hand.
 
-ghost use Rattle.std.specs.Prelude.{◌≡◌, ℕ, [], ◌∷◌, take, IfOk};
+ghost use Rattle.std.specs.Prelude.{◌≡◌, [], ◌∷◌, IfOk};
 ghost use Rattle.cfi_graph.specs.Reading.{HaveGraph};
 ghost use Rattle.cfi_policy.specs.Image.{HaveImage};
 
-use crate::made::{calls, tail_calls};
+use crate::made::calls;
 use cfi_aux::Placed;
 use cfi_graph::{edges, fresh};
 use cfi_policy::{Book, Group, allowed, groups, image_from, image_of, low_modules_have_image};
@@ -161,25 +161,4 @@ pub fn book(alloc: Global) -> Result<bool, AllocError> {
         has_classes(image, &[1, 2, 2, 16383], &words)
             && image.code.as_slice()[16..].starts_with(placed.words.as_slice()),
     )
-}
-
-// The book of modules that come one after the other.
-fn book_of(alloc: Global, modules: &[Placed]) -> Result<Book, AllocError>
-    requires { (n : ℕ) → HaveImage (take n modules.now) 1024 }
-{
-    let layout = Layout::new(1024).unwrap();
-    let code = vec![in alloc; 0; 1024]?;
-    let mut book = Book::of(alloc, &[], code.as_slice(), &layout)?;
-    for (number, placed) in modules.iter().enumerate() {
-        book = book.extended(alloc, &modules[..number], placed)?;
-    }
-    Ok(book)
-}
-
-/// The last of three modules calls the first along two tail calls: its return goes behind that call.
-pub fn chain(alloc: Global) -> Result<bool, AllocError> {
-    let modules = tail_calls(alloc)?;
-    let book = book_of(alloc, modules.as_slice())?;
-    let words = [(16, 0), (30, 0), (31, 0), (32, 1), (33, 0)];
-    Ok(has_classes(book.image(), &[1, 16383], &words))
 }

@@ -4,6 +4,7 @@ use Rattle.std.proofs.lemmas.Bool.{cases_lt}
 use Rattle.std.proofs.Math.Seq.{drop-length}
 use Rattle.std.proofs.lemmas.List.{drop-map, drop_all, length-drop, take_all}
 use Rattle.std.proofs.lemmas.List.Elements.{All-head, All-nil, All-tail}
+use Rattle.cfi_aux.specs.declared.placed.Placed.{Placed}
 use Rattle.cfi_model.specs.Data.{LiesInData}
 use Rattle.cfi_plan.specs.Draft.{starts}
 use Rattle.cfi_plan.specs.declared.plan.Plan.{Plan}
@@ -11,8 +12,12 @@ use Rattle.cfi_modules.specs.Fills.{fill_of, fills_of}
 use Rattle.cfi_unit.specs.declared.fill.Fill.{Fill}
 use Rattle.cfi_valid.specs.Journal.{JournalState}
 use Rattle.cfi_valid.specs.Loaded.{LoadedModule, placed_modules, loaded_by, fills_between}
+use Rattle.cfi_valid.proofs.KeptLemmas.{many_are, places_are}
+use Rattle.cfi_ledger.specs.Force.{starts_in, state_of}
 use Rattle.cfi_ledger.specs.Opens.{given_reply}
 use Rattle.cfi_ledger.specs.Policies.{HavePolicies}
+use Rattle.cfi_ledger.specs.Roster.{IsRosterOf, loaded_in_roster, origin_of}
+use Rattle.cfi_ledger.specs.declared.force.Force.{Force}
 use Rattle.cfi_ledger.proofs.PolicyLemmas.{policies_below}
 use Rattle.cfi_ledger.proofs.SuffixLemmas.{Rise, AllUpTo, first_loaded, later_loaded}
 
@@ -46,6 +51,24 @@ module _ (plan : Plan) (s : JournalState) (have : HavePolicies plan s) where
       ∙ ap (λ (n : ℕ). drop n s.loaded) (omega arith))
       ∙ ap fills_of (sym (drop-map (λ (l : LoadedModule). l.placed) (starts plan.modules + above) s.loaded))
       ∙ sym (drop-map fill_of (starts plan.modules + above) (placed_modules s.loaded))
+
+-- ---- what is in force
+
+module _ (plan : Plan) (f : Force) (have : HavePolicies plan (state_of f)) (is : IsRosterOf plan f.roster) where
+  abbrev many : length (loaded_in_roster f.roster) ≡ length f.roster.lines
+  many = many_are origin_of f.roster.lines f.roster.placed is.many ∙ sym is.many
+
+  -- the start modules are as many as the plan has
+  pub starts_are : starts plan.modules ≡ starts_in f
+  starts_are = omega (arith, have.count, many)
+
+  pub fills_due : (above : ℕ) → fills_between above f.policy (loaded_in_roster f.roster)
+      ≡ drop (starts_in f + above) (fills_of f.roster.placed)
+  fills_due above =
+      later_fills plan (state_of f) have above
+      ∙ ap (λ (n : ℕ). drop (n + above) (fills_of (placed_modules (loaded_in_roster f.roster)))) starts_are
+      ∙ ap (λ (ps : List Placed). drop (starts_in f + above) (fills_of ps))
+      (places_are origin_of f.roster.lines f.roster.placed is.many)
 
 -- ---- a reply
 

@@ -93,54 +93,54 @@ module _ (modules : List Module) (r : Roster) where
 
 module _ (b : Books) (number : ℕ) (outcome : Outcome) where
   abbrev now : Finding
-  now = record { behind = length b.roster.placed; outcome = outcome }
+  now = record { behind = length b.force.roster.placed; outcome = outcome }
 
-  pub says_now : (is : IsFinding b.modules b.roster number now)
-      → JoinsBut b.roster.code_words b.roster.placed is.unplaced (fault_by is.unplaced outcome)
+  pub says_now : (is : IsFinding b.modules b.force.roster number now)
+      → JoinsBut b.force.roster.code_words b.force.roster.placed is.unplaced (fault_by is.unplaced outcome)
   says_now is =
-      subst (λ (ps : List Placed). JoinsBut b.roster.code_words ps is.unplaced (fault_by is.unplaced outcome))
-      (take-length b.roster.placed) is.says
+      subst (λ (ps : List Placed). JoinsBut b.force.roster.code_words ps is.unplaced (fault_by is.unplaced outcome))
+      (take-length b.force.roster.placed) is.says
 
   finding_now : (unplaced : Module) → slice_get b.modules number ≡ Some unplaced
-      → JoinsBut b.roster.code_words b.roster.placed unplaced (fault_by unplaced outcome)
-      → IsFinding b.modules b.roster number now
+      → JoinsBut b.force.roster.code_words b.force.roster.placed unplaced (fault_by unplaced outcome)
+      → IsFinding b.modules b.force.roster number now
   finding_now unplaced is says = record {
     unplaced = unplaced;
     is = is;
     most = omega arith;
-    says = subst (λ (ps : List Placed). JoinsBut b.roster.code_words ps unplaced (fault_by unplaced outcome))
-        (sym (take-length b.roster.placed)) says;
+    says = subst (λ (ps : List Placed). JoinsBut b.force.roster.code_words ps unplaced (fault_by unplaced outcome))
+        (sym (take-length b.force.roster.placed)) says;
   }
 
-  module _ (are : AreFindings b.modules b.roster b.found.items) where
+  module _ (are : AreFindings b.modules b.force.roster b.found.items) where
     -- it is noted
     pub noted_now : (found : List (Option Finding)) → found ≡ slice_set b.found.items number (Some now)
         → (unplaced : Module) → slice_get b.modules number ≡ Some unplaced
-        → JoinsBut b.roster.code_words b.roster.placed unplaced (fault_by unplaced outcome)
-        → AreFindings b.modules b.roster found
+        → JoinsBut b.force.roster.code_words b.force.roster.placed unplaced (fault_by unplaced outcome)
+        → AreFindings b.modules b.force.roster found
     noted_now found found_is unplaced is says =
         let known : number < length b.found.items =
         omega (arith, slice_get_within b.modules number unplaced is, are.many) in
-        subst (AreFindings b.modules b.roster) (sym found_is)
-        (findings_set b.modules b.roster b.found.items are number now known (finding_now unplaced is says))
+        subst (AreFindings b.modules b.force.roster) (sym found_is)
+        (findings_set b.modules b.force.roster b.found.items are number now known (finding_now unplaced is says))
 
     -- it was noted
     module _ (noted : slice_get b.found.items number ≡ Some (Some now)) (unplaced : Module)
         (is : slice_get b.modules number ≡ Some unplaced) where
-      says_there : JoinsBut b.roster.code_words b.roster.placed unplaced (fault_by unplaced outcome)
+      says_there : JoinsBut b.force.roster.code_words b.force.roster.placed unplaced (fault_by unplaced outcome)
       says_there =
           let finding = are.each number now noted in
-          subst (λ (m : Module). JoinsBut b.roster.code_words b.roster.placed m (fault_by m outcome))
+          subst (λ (m : Module). JoinsBut b.force.roster.code_words b.force.roster.placed m (fault_by m outcome))
           (same_module finding.unplaced unplaced (sym finding.is ∙ is)) (says_now finding)
 
       pub unjoined_now : (fault : JoinFault) → fault_by unplaced outcome ≡ Some fault → IsUnprepared b number fault
       unjoined_now fault fault_is = record {
         unplaced = unplaced;
         is = is;
-        why = subst (JoinsBut b.roster.code_words b.roster.placed unplaced) fault_is says_there;
+        why = subst (JoinsBut b.force.roster.code_words b.force.roster.placed unplaced) fault_is says_there;
       }
 
-      pub joins_now : fault_by unplaced outcome ≡ None → DoesJoin b.modules b.roster number
+      pub joins_now : fault_by unplaced outcome ≡ None → DoesJoin b.modules b.force.roster number
       joins_now none =
-          let joins = subst (JoinsBut b.roster.code_words b.roster.placed unplaced) none says_there in
+          let joins = subst (JoinsBut b.force.roster.code_words b.force.roster.placed unplaced) none says_there in
           record { unplaced = unplaced; is = is; placed = joins.0; joins = joins.1 }

@@ -8,11 +8,12 @@ use Rattle.cfi_modules.specs.Image.{IsOrderedImage}
 use Rattle.cfi_modules.specs.Order.{Joins}
 use Rattle.cfi_modules.specs.Series.{Series, with_module, without_last, HasJoined as SeriesHasJoined}
 use Rattle.cfi_aux.specs.declared.placed.Placed.{Placed}
+use Rattle.cfi_plan.specs.declared.plan.Plan.{Plan}
 use Rattle.cfi_plan.specs.declared.plan.PlanModule.{PlanModule}
 use Rattle.cfi_valid.specs.Loaded.{LoadedModule, module_line_of, planned_name}
 use Rattle.cfi_valid.proofs.KeptLemmas.{loaded_more}
 use Rattle.cfi_ledger.specs.declared.entrant.Entrant.{Entrant}
-use Rattle.cfi_ledger.specs.Roster.{HasJoined, IsOffer, Offer, Roster, line_by, loaded_of, origin_of, with_offer}
+use Rattle.cfi_ledger.specs.Roster.{HasJoined, IsOffer, IsRosterOf, Offer, Roster, line_by, loaded_of, origin_of, with_offer}
 use Rattle.cfi_word.specs.declared.lists.Image.{Image}
 
 -- a list without the item at its end
@@ -112,7 +113,7 @@ module _ (number : ℕ) (name : List ℕ) (policy : ℕ) (m : Module) (old new :
         ap (λ (r : Roster). loaded_of r.lines r.placed) joined.is
         ∙ loaded_more origin_of old.lines old.placed its_line joined.one many
 
-    pub joined_many : length new.lines ≡ length new.placed
+    joined_many : length new.lines ≡ length new.placed
     joined_many =
         omega (
           arith,
@@ -124,7 +125,7 @@ module _ (number : ℕ) (name : List ℕ) (policy : ℕ) (m : Module) (old new :
         )
 
     -- and the lines are those of the modules
-    pub joined_lines : (named : List PlanModule)
+    joined_lines : (named : List PlanModule)
         → old.lines ≡ map (module_line_of named) (loaded_of old.lines old.placed) → name ≡ planned_name named number
         → new.lines ≡ map (module_line_of named) (loaded_of new.lines new.placed)
     joined_lines named are name_is =
@@ -135,3 +136,12 @@ module _ (number : ℕ) (name : List ℕ) (policy : ℕ) (m : Module) (old new :
         ∙ ap (λ (x : ModuleLine). map (module_line_of named) (loaded_of old.lines old.placed) ++ x ∷ []) line_is
         ∙ sym (map-append (module_line_of named) (loaded_of old.lines old.placed) (its_module ∷ []))
         ∙ ap (map (module_line_of named)) (sym joined_loaded)
+
+  -- so the roster is the plan's still
+  pub joined_roster : (plan : Plan) → IsRosterOf plan old → name ≡ planned_name plan.modules number
+      → IsRosterOf plan new
+  joined_roster plan is name_is = record {
+    code_words_are = ap (λ (r : Roster). r.code_words) joined.is ∙ is.code_words_are;
+    many = joined_many is.many;
+    lines_are = joined_lines is.many plan.modules is.lines_are name_is;
+  }

@@ -16,10 +16,9 @@ use Rattle.cfi_valid.specs.Loaded.{LoadedModule, placed_modules, loaded_by}
 use Rattle.cfi_valid.proofs.SeriesLemmas.{journal_series}
 use Rattle.cfi_word.specs.declared.lists.Image.{Image}
 use Rattle.cfi_ledger.specs.Policies.{HavePolicies}
-use Rattle.cfi_ledger.specs.Entries.{HaveEntries}
+use Rattle.cfi_ledger.specs.Entries.{HaveEntries, AllEnter, IsFirstOut}
 use Rattle.cfi_ledger.specs.Plans.{CanStart}
 use Rattle.cfi_valid.specs.Opening.{IsFirstLost}
-use Rattle.cfi_ledger.specs.Entries.{AllEnter, IsFirstOut}
 use Rattle.cfi_ledger.specs.Roster.{Roster, IsImageOfRoster, loaded_in_roster, origin_of}
 use Rattle.cfi_ledger.specs.Starts.{AreStarted, opened_state}
 use Rattle.cfi_ledger.proofs.EntryLemmas.{among_self, loaded_all}
@@ -45,7 +44,7 @@ module _ (plan : Plan) (loaded : List LoadedModule) (ms : List Placed)
 module _ (plan : Plan) (modules : List Module) (can : CanStart plan modules) (r : Roster)
     (all : AreStarted plan modules (length plan.modules) r) where
   pub places : placed_modules (loaded_in_roster r) ≡ r.placed
-  places = places_are origin_of r.lines r.placed all.many
+  places = places_are origin_of r.lines r.placed all.roster_is.many
 
   pub start_places : placed_modules (loaded_by 0 (loaded_in_roster r)) ≡ r.placed
   start_places =
@@ -89,7 +88,7 @@ module _ (plan : Plan) (modules : List Module) (can : CanStart plan modules) (r 
 
   module _ (image : Image) (of : IsImageOfRoster r image) where
     pub labels : IsImage (DirectEdge r.placed) r.placed plan.code_words image
-    labels = subst (λ (n : ℕ). IsImage (DirectEdge r.placed) r.placed n image) all.code_words_are of
+    labels = subst (λ (n : ℕ). IsImage (DirectEdge r.placed) r.placed n image) all.roster_is.code_words_are of
 
     pub start_closed : IsClosed plan.code_words image
     start_closed = closed plan.code_words r.placed start_loaded r.placed image (among_self r.placed, labels)

@@ -13,8 +13,7 @@ use Rattle.cfi_unit.specs.declared.fill.Fill.{Fill}
 use Rattle.cfi_valid.proofs.KeptLemmas.{kept_at, loaded_at}
 use Rattle.cfi_valid.specs.Kept.{module_from}
 use Rattle.cfi_valid.specs.Loaded.{LoadedModule, IsLoaded}
-use Rattle.cfi_ledger.specs.Opens.{IsAddressOf}
-use Rattle.cfi_ledger.specs.Opens.{IsFirstGlobal}
+use Rattle.cfi_ledger.specs.Opens.{IsAddressOf, IsFirstGlobal}
 use Rattle.cfi_ledger.specs.Loads.{IsListed, IsUnlisted}
 use Rattle.cfi_ledger.specs.Roster.{Roster, line_by, loaded_of, origin_of}
 

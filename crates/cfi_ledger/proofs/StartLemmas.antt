@@ -1,8 +1,7 @@
 -- The start modules, one after the other.
-use Rattle.std.proofs.Common.{◌≡◌, ℕ, ◌+◌, ◌<◌, ◌++◌, Bool, true, false, List, [], ◌∷◌, length, map, get_or, Some, refl, sym, ap, subst, ◌∙◌, arith, length-append}
+use Rattle.std.proofs.Common.{◌≡◌, ℕ, ◌+◌, ◌<◌, ◌++◌, Bool, true, false, List, [], ◌∷◌, length, get_or, Some, refl, sym, ap, subst, ◌∙◌, arith, length-append}
 use Rattle.std.specs.Option.{option_map_or}
 use Rattle.std.specs.List.{slice_get}
-use Rattle.std.proofs.lemmas.List.{map-append, length-map}
 use Rattle.std.proofs.lemmas.List.Sums.{sum_by-cons}
 use Rattle.std.proofs.lemmas.Option.{slice_get-get_or}
 use Rattle.cfi_aux.specs.declared.modules.Module.{Module}
@@ -15,11 +14,12 @@ use Rattle.cfi_modules.specs.Order.{Joins, IsJoinFault}
 use Rattle.cfi_modules.specs.declared.fault.JoinFault.{JoinFault}
 use Rattle.cfi_modules.specs.declared.fault.JoinFault.TheVariants as joins
 use Rattle.cfi_valid.specs.Journal.{IsOpeningState, starts_from}
-use Rattle.cfi_valid.specs.Loaded.{LoadedModule, module_line_of, planned_name}
+use Rattle.cfi_valid.specs.Loaded.{LoadedModule, planned_name}
 use Rattle.cfi_valid.proofs.StartLemmas.{StartsAreLoaded, one_of, starts_cons, starts_same, starts_more, starts_all, unjoined}
 use Rattle.cfi_ledger.specs.Opening.{IsStartFault}
 use Rattle.cfi_ledger.specs.Roster.{Roster, HasJoined, line_by, loaded_in_roster, loaded_of, origin_of}
 use Rattle.cfi_ledger.specs.Starts.{AreStarted, opened_state, start_fault_of}
+use Rattle.cfi_ledger.proofs.JoinedLemmas.{joined_roster}
 use Rattle.cfi_valid.proofs.KeptLemmas.{loaded_more, places_are}
 
 -- ---- the numbers of start modules
@@ -59,11 +59,9 @@ module _ (plan : Plan) (modules : List Module) where
     started_same late =
         let same = starts_same plan modules number one within is (loaded_in_roster r) r.placed these late in
         record {
-          code_words_are = so_far.code_words_are;
-          many = so_far.many;
+          roster_is = so_far.roster_is;
           starts = same.starts;
           policies = same.policies;
-          lines_are = so_far.lines_are;
           order = same.order;
         }
 
@@ -76,26 +74,23 @@ module _ (plan : Plan) (modules : List Module) where
           let line : ModuleLine = line_by number one.name 0 p in
           let l : LoadedModule = record { number = number; placed = p; policy = 0 } in
           let there : loaded_of (r.lines ++ line ∷ []) (r.placed ++ p ∷ []) ≡ loaded_in_roster r ++ l ∷ [] =
-          loaded_more origin_of r.lines r.placed line p so_far.many in
+          loaded_more origin_of r.lines r.placed line p so_far.roster_is.many in
           let joins : Joins plan.code_words r.placed unplaced p =
-          subst (λ (n : ℕ). Joins n r.placed unplaced p) so_far.code_words_are joined.joins in
+          subst (λ (n : ℕ). Joins n r.placed unplaced p) so_far.roster_is.code_words_are joined.joins in
           let name : one.name ≡ planned_name plan.modules number =
           sym (ap (λ o. option_map_or (λ (x : PlanModule). x.name) o [])
           (slice_get-get_or plan.modules number one within ∙ ap (λ (x : PlanModule). Some x) (sym is))) in
-          let line_is : line ≡ module_line_of plan.modules l = ap (λ (xs : List ℕ). line_by number xs 0 p) name in
           let all : Roster = record r { lines = r.lines ++ line ∷ []; placed = r.placed ++ p ∷ [] } in
           let more = starts_more plan modules number one within is (loaded_in_roster r) r.placed these start unplaced is_there
           p joins l refl refl (loaded_in_roster all) there in
           let started : AreStarted plan modules (number + 1) all = record {
-            code_words_are = so_far.code_words_are;
-            many = omega (arith, length-append r.lines (line ∷ []), length-append r.placed (p ∷ []), so_far.many);
+            roster_is = joined_roster number one.name 0 unplaced r all (record {
+              one = p;
+              joins = joined.joins;
+              is = refl;
+            }) plan so_far.roster_is name;
             starts = more.starts;
             policies = more.policies;
-            lines_are =
-                ap (λ (ls : List ModuleLine). ls ++ line ∷ []) so_far.lines_are
-                ∙ ap (λ (x : ModuleLine). map (module_line_of plan.modules) (loaded_in_roster r) ++ x ∷ []) line_is
-                ∙ sym (ap (map (module_line_of plan.modules)) there
-                ∙ map-append (module_line_of plan.modules) (loaded_in_roster r) (l ∷ []));
             order = more.order;
           } in
           subst (AreStarted plan modules (number + 1)) (sym joined.is) started
@@ -105,22 +100,15 @@ module _ (plan : Plan) (modules : List Module) where
           → IsStartFault plan modules (start_fault_of number fault)
       started_fault (joins.Place fault) why =
           unjoined plan modules number one within is (loaded_in_roster r) r.placed these start unplaced is_there
-          r.code_words so_far.code_words_are (joins.Place fault) why
+          r.code_words so_far.roster_is.code_words_are (joins.Place fault) why
       started_fault (joins.Verify fault) why =
           unjoined plan modules number one within is (loaded_in_roster r) r.placed these start unplaced is_there
-          r.code_words so_far.code_words_are (joins.Verify fault) why
+          r.code_words so_far.roster_is.code_words_are (joins.Verify fault) why
       started_fault joins.Memory why = tt
 
   -- all of them are the opening's
   pub started_all : (r : Roster) → AreStarted plan modules (length plan.modules) r
       → IsOpeningState plan modules (opened_state plan r)
   started_all r all =
-      starts_all plan modules (loaded_in_roster r) r.placed (places_are origin_of r.lines r.placed all.many)
+      starts_all plan modules (loaded_in_roster r) r.placed (places_are origin_of r.lines r.placed all.roster_is.many)
       (starts_are plan modules (length plan.modules) r all)
-
-  pub started_count : (r : Roster) → AreStarted plan modules (length plan.modules) r
-      → length (loaded_in_roster r) ≡ starts plan.modules
-  started_count r all =
-      sym (length-map (loaded_in_roster r) (λ (l : LoadedModule). l.number))
-      ∙ ap (λ (xs : List ℕ). length xs) (started_all r all).starts
-      ∙ starts_count 0 plan.modules

@@ -1,25 +1,34 @@
--- The books of a run: the plan and its modules, those that are loaded, what is in force, and the journal.
-use Rattle.std.specs.Prelude.{◌≡◌, List, length, map}
+-- The books of a run: the plan and its modules, and what is in force, with the journal.
+use Rattle.std.specs.Prelude.{List}
+use Rattle.cfi_policy.specs.Book.{KeptImage}
 use Rattle.cfi_valid.specs.Course.{Course}
 use Rattle.cfi_valid.specs.Journal.{JournalState}
-use Rattle.cfi_valid.specs.Loaded.{LoadedModule, module_line_of}
+use Rattle.cfi_valid.specs.Loaded.{LoadedModule}
 use Rattle.cfi_ledger.specs.declared.books.Books.{Books}
-use Rattle.cfi_ledger.specs.Roster.{loaded_in_roster}
+use Rattle.cfi_ledger.specs.Force.{state_of, with_load}
+use Rattle.cfi_ledger.specs.Journal.{Minutes}
+use Rattle.cfi_ledger.specs.Roster.{Roster, loaded_in_roster}
 
 -- the loaded modules
 abbrev pub loaded_in : Books → List LoadedModule
-loaded_in b = loaded_in_roster b.roster
+loaded_in b = loaded_in_roster b.force.roster
 
 -- the state to which the journal leads, and the course
 abbrev pub end_of_books : Books → JournalState
-end_of_books b = record { epoch = b.epoch; policy = b.policy; loaded = loaded_in b }
+end_of_books b = state_of b.force
 
 -- the run so far, as valid reports have it
 abbrev pub course_in : Books → Course
-course_in b = record { plan = b.plan; modules = b.modules; journal = b.journal.lines; end = end_of_books b }
+course_in b = record { plan = b.plan; modules = b.modules; journal = b.force.journal.lines; end = end_of_books b }
 
--- the roster has the lines of the loaded modules
-pub record IsRosterOf (b : Books) : Type 0 where
-  pub code_words_are : b.roster.code_words ≡ b.plan.code_words
-  pub many : length b.roster.lines ≡ length b.roster.placed
-  pub lines_are : b.roster.lines ≡ map (module_line_of b.plan.modules) (loaded_in b)
+-- with another journal
+abbrev pub with_journal : Minutes → Books → Books
+with_journal journal b = record b { force = record b.force { journal = journal } }
+
+-- with other loaded modules
+abbrev pub with_roster : Roster → Books → Books
+with_roster roster b = record b { force = record b.force { roster = roster } }
+
+-- a load is in force: these modules are loaded, with this image and its links
+abbrev pub committed : Roster → KeptImage → Minutes → Books → Books
+committed roster book journal b = record b { force = with_load roster journal b.force; book = book }

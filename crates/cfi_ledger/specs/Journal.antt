@@ -26,7 +26,7 @@ minutes_of a = record {
   spare = vec_capacity a.lines - (vec_len a.lines + (vec_len a.calls - a.made));
 }
 
--- calls that are left are no fewer than none, and each has room for its line
+-- no more calls were made than the script has, and each that is left has room for its line
 pub record HasScriptRoom (a : Inside) : Type 0 where
   pub made_most : a.made ≤ vec_len a.calls
   pub room : vec_len a.lines + (vec_len a.calls - a.made) ≤ vec_capacity a.lines
@@ -35,9 +35,9 @@ pub record HasScriptRoom (a : Inside) : Type 0 where
 abbrev pub asked_by : Who → JournalLine → Entry
 asked_by who what = record { who = who; what = what }
 
--- there is room for a line
+-- there is room for a line: for the script's that of a call that is left, or beside those
 abbrev pub HasRoomFor : Who → Minutes → Type 0
-HasRoomFor Script minutes = 0 < length minutes.left
+HasRoomFor Script minutes = 0 < length minutes.left + minutes.spare
 HasRoomFor (Guest number) minutes = 0 < minutes.spare
 
 -- a line more

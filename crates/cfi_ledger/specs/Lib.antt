@@ -5,6 +5,7 @@ pub mod Roster
 pub mod Finding
 pub mod Entries
 pub mod Starts
+pub mod Force
 pub mod Books
 pub mod Loads
 pub mod Opening

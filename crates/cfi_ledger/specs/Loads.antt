@@ -40,18 +40,18 @@ pub record IsAbsent (b : Books) (number : ℕ) : Type 0 where
 pub record HasPrepared (b : Books) (number : ℕ) (roster : Roster) : Type 0 where
   pub unplaced : Module
   pub is : slice_get b.modules number ≡ Some unplaced
-  pub joined : HasJoined number (planned_name b.plan.modules number) (b.policy + 1) unplaced b.roster roster
+  pub joined : HasJoined number (planned_name b.plan.modules number) (b.force.policy + 1) unplaced b.force.roster roster
 
 -- or it does not, for this fault
 pub record IsUnprepared (b : Books) (number : ℕ) (fault : JoinFault) : Type 0 where
   pub unplaced : Module
   pub is : slice_get b.modules number ≡ Some unplaced
-  pub why : IsJoinFault b.roster.code_words b.roster.placed unplaced fault
+  pub why : IsJoinFault b.force.roster.code_words b.force.roster.placed unplaced fault
 
 -- it joins, and no epoch is left
 pub record IsSpent (b : Books) (number : ℕ) : Type 0 where
-  pub joins : DoesJoin b.modules b.roster number
-  pub last : b.epoch ≡ MAX_EPOCH
+  pub joins : DoesJoin b.modules b.force.roster number
+  pub last : b.force.epoch ≡ MAX_EPOCH
 
 -- what is known of it
 abbrev pub IsKnown : Books → (number : ℕ) → Known → Type 0

@@ -14,6 +14,7 @@ use Rattle.cfi_ledger.specs.declared.fault.OpenFault.TheVariants.{Place, Verify,
 use Rattle.cfi_ledger.specs.declared.fault.StartFault.{StartFault}
 use Rattle.cfi_ledger.specs.declared.fault.StartFault.TheVariants.{Open, Memory}
 use Rattle.cfi_ledger.specs.Entries.{AllEnter}
+use Rattle.cfi_ledger.specs.Force.{force_at}
 use Rattle.cfi_ledger.specs.Journal.{Minutes}
 use Rattle.cfi_ledger.specs.Roster.{Roster, IsBookOfRoster, IsImageOfRoster}
 use Rattle.cfi_ledger.specs.Starts.{AreStarted}
@@ -53,21 +54,17 @@ books_at plan modules roster book journal b = record b {
   plan = plan;
   modules = modules;
   layout = plan.code_words;
-  roster = roster;
+  force = force_at plan roster journal;
   book = book;
-  epoch = plan.first;
-  policy = 0;
-  starts = length roster.lines;
-  journal = journal;
   starved = false;
 }
 
 -- the books of these start modules: with their image, no lines yet, the whole script left, and nothing found
 pub record AreOpeningBooks (plan : Plan) (modules : List Module) (roster : Roster) (b : Books) : Type 0 where
-  pub is : b ≡ books_at plan modules roster b.book b.journal b
+  pub is : b ≡ books_at plan modules roster b.book b.force.journal b
   pub book_is : IsBookOfRoster roster b.book
-  pub lines_are : b.journal.lines ≡ []
-  pub left_are : b.journal.left ≡ script_calls plan.script
+  pub lines_are : b.force.journal.lines ≡ []
+  pub left_are : b.force.journal.left ≡ script_calls plan.script
   pub none_found : b.found.items ≡ replicate (length modules) None
 
 -- they are those of the start modules, and each guest has somewhere to begin

@@ -1,15 +1,16 @@
 -- The loaded modules as they are kept: a line of a report for each, its data, and where it stands.
-use Rattle.std.specs.Prelude.{◌≡◌, ℕ, ◌+◌, ◌<◌, List, [], ◌∷◌, ◌++◌, length, vec_len, vec_capacity}
+use Rattle.std.specs.Prelude.{◌≡◌, ℕ, ◌+◌, ◌<◌, List, [], ◌∷◌, ◌++◌, length, map, vec_len, vec_capacity}
 use Rattle.cfi_aux.specs.declared.modules.Module.{Module}
 use Rattle.cfi_aux.specs.declared.placed.Placed.{Placed}
 use Rattle.cfi_plan.specs.declared.journal.ModuleLine.{ModuleLine}
+use Rattle.cfi_plan.specs.declared.plan.Plan.{Plan}
 use Rattle.cfi_modules.specs.Fills.{fill_of, fills_of}
 use Rattle.cfi_policy.specs.Book.{KeptImage, StandsFor}
 use Rattle.cfi_modules.specs.Image.{IsImageOfSeries}
 use Rattle.cfi_modules.specs.Order.{Joins}
 use Rattle.cfi_modules.specs.Series.{Series, without_last}
 use Rattle.cfi_valid.specs.Kept.{Origin, loaded_from}
-use Rattle.cfi_valid.specs.Loaded.{LoadedModule}
+use Rattle.cfi_valid.specs.Loaded.{LoadedModule, module_line_of}
 use Rattle.cfi_word.specs.declared.lists.Image.{Image}
 use Rattle.cfi_ledger.specs.declared.roster.Roster.TheInside.{Inside}
 use Rattle.cfi_ledger.specs.declared.candidate.Candidate.TheInside.{Inside as CandidateInside}
@@ -56,6 +57,12 @@ loaded_of lines placed = loaded_from origin_of lines placed
 -- its modules with their lines
 abbrev pub loaded_in_roster : Roster → List LoadedModule
 loaded_in_roster r = loaded_of r.lines r.placed
+
+-- the roster has the code words of the plan, and the lines of its loaded modules
+pub record IsRosterOf (plan : Plan) (r : Roster) : Type 0 where
+  pub code_words_are : r.code_words ≡ plan.code_words
+  pub many : length r.lines ≡ length r.placed
+  pub lines_are : r.lines ≡ map (module_line_of plan.modules) (loaded_in_roster r)
 
 -- a roster has a module more, which joins those before it
 pub record HasJoined (number : ℕ) (name : List ℕ) (policy : ℕ) (unplaced : Module) (old new : Roster) : Type 0 where

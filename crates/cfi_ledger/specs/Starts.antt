@@ -1,24 +1,22 @@
 -- Start modules as far as they have been placed.
-use Rattle.std.specs.Prelude.{◌≡◌, ℕ, List, length, map, take, All}
+use Rattle.std.specs.Prelude.{◌≡◌, ℕ, List, map, take, All}
 use Rattle.cfi_aux.specs.declared.modules.Module.{Module}
 use Rattle.cfi_plan.specs.declared.plan.Plan.{Plan}
 use Rattle.cfi_modules.specs.Order.{AreInOrder}
 use Rattle.cfi_modules.specs.declared.fault.JoinFault.{JoinFault}
 use Rattle.cfi_modules.specs.declared.fault.JoinFault.TheVariants as joins
 use Rattle.cfi_valid.specs.Journal.{JournalState, starts_from, modules_at}
-use Rattle.cfi_valid.specs.Loaded.{LoadedModule, module_line_of}
+use Rattle.cfi_valid.specs.Loaded.{LoadedModule}
 use Rattle.cfi_ledger.specs.declared.fault.OpenFault.TheVariants.{Place, Verify}
 use Rattle.cfi_ledger.specs.declared.fault.StartFault.{StartFault}
 use Rattle.cfi_ledger.specs.declared.fault.StartFault.TheVariants.{Open, Memory}
-use Rattle.cfi_ledger.specs.Roster.{Roster, loaded_in_roster}
+use Rattle.cfi_ledger.specs.Roster.{Roster, IsRosterOf, loaded_in_roster}
 
 -- of the first so many modules of the plan, those of the start
 pub record AreStarted (plan : Plan) (modules : List Module) (number : ℕ) (r : Roster) : Type 0 where
-  pub code_words_are : r.code_words ≡ plan.code_words
-  pub many : length r.lines ≡ length r.placed
+  pub roster_is : IsRosterOf plan r
   pub starts : map (λ (l : LoadedModule). l.number) (loaded_in_roster r) ≡ starts_from 0 (take number plan.modules)
   pub policies : All (λ (l : LoadedModule). l.policy ≡ 0) (loaded_in_roster r)
-  pub lines_are : r.lines ≡ map (module_line_of plan.modules) (loaded_in_roster r)
   pub order : AreInOrder plan.code_words (modules_at modules (starts_from 0 (take number plan.modules))) r.placed
 
 -- the state of the opening

@@ -1,11 +1,11 @@
-//! The books of a run: the lines of its journal, and its loads: what is known of a module before it is tried, what was
-//! found of it, and the module in force.
+//! The books of a live run: what is known of a module before it is tried, what was found of it, and the load in force.
 
 ghost use Rattle.std.specs.Prelude.{◌≡◌, ◌+◌, ◌<◌, true, if◌then◌else◌, IfOk, IfErr, IfSome, OnOk, OnErr, Some, length, slice_get, slice_index_or, slice_set};
 ghost use Rattle.cfi_plan.specs.declared.journal.JournalLine.TheVariants.{LoadOk};
 ghost use Rattle.cfi_plan.specs.declared.journal.Who.TheVariants.{Script};
 ghost use Rattle.cfi_aux.specs.declared.placed.Placed.{Placed as PlacedModule};
 ghost use Rattle.cfi_valid.specs.declared.limits.TheConstants.{MAX_LOADED};
+ghost use Rattle.cfi_ledger.specs.Books.{committed, with_journal, with_roster};
 ghost use Rattle.cfi_ledger.specs.Plans.{CanStart};
 ghost use Rattle.cfi_ledger.specs.Journal.{asked_by};
 ghost use Rattle.cfi_ledger.specs.Finding.{AreFindings, DoesJoin};
@@ -14,11 +14,11 @@ ghost use Rattle.cfi_ledger.specs.Loads.{HasPrepared, IsKnown, IsUnprepared};
 ghost use Rattle.cfi_ledger.specs.Opens.{IsFirstGlobal};
 ghost use Rattle.cfi_ledger.specs.Roster.{IsBookOfRoster};
 ghost use Rattle.cfi_policy.specs.Book.{KeepsNumbers};
+ghost use Rattle.cfi_word.specs.declared.limits.TheConstants.{MAX_EPOCH};
 
 use crate::candidate::Candidate;
-use crate::entrant::Entrant;
 use crate::finding::{Finding, Known, Outcome, fault_by, outcome_of};
-use crate::journal::Journal;
+use crate::force::Force;
 use crate::roster::Roster;
 use cfi_aux::Module;
 use cfi_modules::{JoinFault, first_global, loaded_have_entries};
@@ -30,7 +30,7 @@ use cfi_word::limits::MAX_EPOCH;
 use std::alloc::Global;
 use std::mem;
 
-/// The plan and its modules, those that are loaded, what is in force, and the journal.
+/// The plan and its modules, what is in force, with the journal, and what was found of modules that are not loaded.
 #[derive(Drop)]
 pub struct Books {
     /// The plan.
@@ -39,20 +39,12 @@ pub struct Books {
     pub modules: Items<Module>,
     /// The code words of the plan.
     pub layout: Layout,
-    /// The loaded modules.
-    pub roster: Roster,
+    /// What is in force, with the journal.
+    pub force: Force,
     /// The image in force, with the links of the loaded modules.
     pub book: Book,
-    /// The epoch in force.
-    pub epoch: u32,
-    /// The policy in force.
-    pub policy: u32,
-    /// How many modules were there from the start.
-    pub starts: usize,
     /// What was found of each module of the plan when it was tried, so that it is not tried twice behind the same ones.
     pub found: Vec<Option<Finding>>,
-    /// The journal.
-    pub journal: Journal,
     /// Whether memory was missing for a load.
     pub starved: bool,
     /// Where their memory comes from.
@@ -62,34 +54,33 @@ pub struct Books {
 impl Books {
     /// Adds a line to the journal, for which there is room. It takes no memory.
     pub fn tell(&mut self, who: Who, what: JournalLine)
-        requires room { HasRoomFor who self.old.journal }
-        ensures line { HasLine (asked_by who what) self.old.journal self.new.journal }
-        ensures same { self.new ≡ record self.old { journal = self.new.journal } }
+        requires room { HasRoomFor who self.old.force.journal }
+        ensures line { HasLine (asked_by who what) self.old.force.journal self.new.force.journal }
+        ensures same { self.new ≡ with_journal self.new.force.journal self.old }
     {
-        self.journal.tell(who, what);
+        self.force.tell(who, what);
     }
 
     /// The address of the first Global function of the module at a place in load order.
     pub fn address_at(&self, at: usize) -> Option<u32>
-        requires { at < length self.now.roster.placed }
+        requires { at < length self.now.force.roster.placed }
         ensures { (d : PlacedModule)
-            → IsFirstGlobal (slice_index_or self.now.roster.placed at d) result }
+            → IsFirstGlobal (slice_index_or self.now.force.roster.placed at d) result }
     {
         loaded_have_entries();
-        first_global(&self.roster.modules()[at])
+        first_global(&self.force.roster.modules()[at])
     }
 
     // Takes room for a line beside those of the script. Whether there is memory for it.
     fn reserve_one(&mut self) -> bool
-        ensures lines { self.new.journal.lines ≡ self.old.journal.lines }
-        ensures left { self.new.journal.left ≡ self.old.journal.left }
-        ensures room { result ≡ true → 0 < self.new.journal.spare }
-        ensures same { self.new ≡ record self.old {
-          journal = self.new.journal;
+        ensures lines { self.new.force.journal.lines ≡ self.old.force.journal.lines }
+        ensures left { self.new.force.journal.left ≡ self.old.force.journal.left }
+        ensures room { result ≡ true → 0 < self.new.force.journal.spare }
+        ensures same { self.new ≡ record (with_journal self.new.force.journal self.old) {
           starved = if result then self.old.starved else true;
         } }
     {
-        if self.journal.reserve().is_ok() {
+        if self.force.journal.reserve().is_ok() {
             return true;
         }
         self.starved = true;
@@ -98,12 +89,11 @@ impl Books {
 
     /// Takes room for the line of whoever asks; that of the script has room. Whether there is memory for it.
     pub fn reserve(&mut self, who: Who) -> bool
-        requires { who ≡ Script → 0 < length self.old.journal.left }
-        ensures lines { self.new.journal.lines ≡ self.old.journal.lines }
-        ensures left { self.new.journal.left ≡ self.old.journal.left }
-        ensures room { result ≡ true → HasRoomFor who self.new.journal }
-        ensures same { self.new ≡ record self.old {
-          journal = self.new.journal;
+        requires { who ≡ Script → 0 < length self.old.force.journal.left }
+        ensures lines { self.new.force.journal.lines ≡ self.old.force.journal.lines }
+        ensures left { self.new.force.journal.left ≡ self.old.force.journal.left }
+        ensures room { result ≡ true → HasRoomFor who self.new.force.journal }
+        ensures same { self.new ≡ record (with_journal self.new.force.journal self.old) {
           starved = if result then self.old.starved else true;
         } }
     {
@@ -119,24 +109,25 @@ impl Books {
     pub fn prepare(&mut self, number: u32) -> Result<Candidate, JoinFault>
         requires can { CanStart self.old.plan self.old.modules }
         requires known { number < length self.old.plan.modules }
-        requires few { self.old.policy < MAX_LOADED }
-        requires book { IsBookOfRoster self.old.roster self.old.book }
+        requires few { self.old.force.policy < MAX_LOADED }
+        requires book { IsBookOfRoster self.old.force.roster self.old.book }
         ensures ok { IfOk result (λ candidate. HasPrepared self.old number candidate.roster) }
-        ensures before { IfOk result (λ candidate. candidate.before ≡ self.old.roster) }
+        ensures before { IfOk result (λ candidate. candidate.before ≡ self.old.force.roster) }
         ensures book { IfOk result (λ candidate. IsBookOfRoster candidate.roster candidate.book) }
         ensures kept { IfOk result (λ candidate.
             KeepsNumbers candidate.roster.placed self.old.book.image candidate.book.image) }
-        ensures lent { OnOk result (self.new ≡ record self.old { roster = self.new.roster }) }
+        ensures lent { OnOk result (self.new ≡ with_roster self.new.force.roster self.old) }
         ensures fault { IfErr result (IsUnprepared self.old number) }
         ensures same { OnErr result (self.new ≡ self.old) }
     {
-        let roster = mem::replace(&mut self.roster, Roster::new(self.alloc, &self.layout));
-        let entrant = Entrant::of(&self.plan, number, self.policy + 1);
+        let empty = Roster::new(self.alloc, &self.layout);
+        let roster = mem::replace(&mut self.force.roster, empty);
+        let entrant = self.force.entrant(&self.plan, number);
         let unplaced = &self.modules.as_slice()[number as usize];
         match roster.prepare(&entrant, unplaced, &self.book) {
             Ok(candidate) => Ok(candidate),
             Err(unjoined) => {
-                self.roster = unjoined.roster;
+                self.force.roster = unjoined.roster;
                 Err(unjoined.fault)
             }
         }
@@ -146,20 +137,22 @@ impl Books {
     pub fn joins(&mut self, number: u32) -> Result<(), JoinFault>
         requires can { CanStart self.old.plan self.old.modules }
         requires known { number < length self.old.plan.modules }
-        ensures ok { OnOk result (DoesJoin self.old.modules self.old.roster number) }
+        ensures ok { OnOk result (DoesJoin self.old.modules self.old.force.roster number) }
         ensures fault { IfErr result (IsUnprepared self.old number) }
         ensures same { self.new ≡ self.old }
     {
-        self.roster.joins(&self.modules.as_slice()[number as usize])
+        self.force
+            .roster
+            .joins(&self.modules.as_slice()[number as usize])
     }
 
     // What was found of a module behind all that are loaded.
     fn outcome(&self, number: u32) -> Option<Outcome>
         requires { number < length self.now.found.items }
         ensures { IfSome result (λ outcome. slice_get self.now.found.items number
-            ≡ Some (Some (record { behind = length self.now.roster.placed; outcome = outcome }))) }
+            ≡ Some (Some (record { behind = length self.now.force.roster.placed; outcome = outcome }))) }
     {
-        let loaded = self.roster.lines().len();
+        let loaded = self.force.roster.lines().len();
         match self.found[number as usize] {
             Some(finding) => {
                 if finding.behind == loaded {
@@ -177,7 +170,7 @@ impl Books {
     /// The name of a fault takes memory, and want of that is a fault.
     pub fn known(&self, number: u32) -> Known
         requires known { number < length self.now.modules }
-        requires found { AreFindings self.now.modules self.now.roster self.now.found.items }
+        requires found { AreFindings self.now.modules self.now.force.roster self.now.found.items }
         ensures { IsKnown self.now number result }
     {
         let Some(outcome) = self.outcome(number) else {
@@ -190,7 +183,7 @@ impl Books {
         if let Some(fault) = fault {
             return Known::Unjoined(fault);
         }
-        if self.epoch == MAX_EPOCH {
+        if self.force.epoch == MAX_EPOCH {
             return Known::Spent;
         }
         Known::Nothing
@@ -200,18 +193,18 @@ impl Books {
     fn note(&mut self, number: u32, outcome: Outcome)
         requires { number < length self.old.found.items }
         ensures found { self.new.found.items ≡ slice_set self.old.found.items number
-            (Some (record { behind = length self.old.roster.placed; outcome = outcome })) }
+            (Some (record { behind = length self.old.force.roster.placed; outcome = outcome })) }
         ensures same { self.new ≡ record self.old { found = self.new.found } }
     {
-        let behind = self.roster.lines().len();
+        let behind = self.force.roster.lines().len();
         self.found[number as usize] = Some(Finding { behind, outcome });
     }
 
     /// Keeps why a module does not join. It takes no memory.
     pub fn keep(&mut self, number: u32, fault: &JoinFault)
-        requires found { AreFindings self.old.modules self.old.roster self.old.found.items }
+        requires found { AreFindings self.old.modules self.old.force.roster self.old.found.items }
         requires unprepared { IsUnprepared self.old number fault.now }
-        ensures found { AreFindings self.old.modules self.old.roster self.new.found.items }
+        ensures found { AreFindings self.old.modules self.old.force.roster self.new.found.items }
         ensures same { self.new ≡ record self.old { found = self.new.found } }
     {
         let unplaced = &self.modules.as_slice()[number as usize];
@@ -222,41 +215,28 @@ impl Books {
 
     /// Keeps that a module joins. It takes no memory.
     pub fn keep_joining(&mut self, number: u32)
-        requires found { AreFindings self.old.modules self.old.roster self.old.found.items }
-        requires joins { DoesJoin self.old.modules self.old.roster number }
-        ensures found { AreFindings self.old.modules self.old.roster self.new.found.items }
+        requires found { AreFindings self.old.modules self.old.force.roster self.old.found.items }
+        requires joins { DoesJoin self.old.modules self.old.force.roster number }
+        ensures found { AreFindings self.old.modules self.old.force.roster self.new.found.items }
         ensures same { self.new ≡ record self.old { found = self.new.found } }
     {
         self.note(number, Outcome::Joins);
     }
 
-    /// Puts a module in force, with its line.
-    pub fn commit(&mut self, candidate: Candidate, who: Who, number: u32, epoch: u32)
-        requires room { HasRoomFor who self.old.journal }
-        requires few { self.old.policy < MAX_LOADED }
-        ensures line { HasLine (asked_by who (LoadOk number epoch (self.old.policy + 1)))
-            self.old.journal self.new.journal }
-        ensures same { self.new ≡ record self.old {
-          journal = self.new.journal;
-          roster = candidate.roster;
-          book = candidate.book;
-          epoch = epoch;
-          policy = self.old.policy + 1;
-        } }
+    /// Puts a module in force, with its line. It takes no memory.
+    pub fn commit(&mut self, candidate: Candidate, who: Who, number: u32)
+        requires room { HasRoomFor who self.old.force.journal }
+        requires left { self.old.force.epoch < MAX_EPOCH }
+        requires few { self.old.force.policy < MAX_LOADED }
+        ensures line { HasLine
+            (asked_by who (LoadOk number (self.old.force.epoch + 1) (self.old.force.policy + 1)))
+            self.old.force.journal self.new.force.journal }
+        ensures same { self.new
+            ≡ committed candidate.roster candidate.book self.new.force.journal self.old }
     {
         let (roster, book) = candidate.commit();
-        self.roster = roster;
         self.book = book;
-        self.epoch = epoch;
-        self.policy += 1;
-        let policy = self.policy;
-        self.tell(
-            who,
-            JournalLine::LoadOk {
-                module: number,
-                epoch,
-                policy,
-            },
-        );
+        self.force.roster = roster;
+        self.force.put_load(who, number);
     }
 }

@@ -1,6 +1,6 @@
 //! The journal, beside what of the script is left.
 
-ghost use Rattle.std.specs.Prelude.{◌≡◌, ◌≤◌, ◌<◌, ◌++◌, [], ◌∷◌, IfOk, OnOk, OnErr, map, length, option_map, slice_get};
+ghost use Rattle.std.specs.Prelude.{◌≡◌, ◌≤◌, ◌<◌, ◌++◌, [], IfOk, OnOk, map, length, option_map, slice_get};
 ghost use Rattle.cfi_plan.specs.Draft.{refreshes};
 ghost use Rattle.cfi_valid.specs.Script.{calls_of, script_calls};
 ghost use Rattle.cfi_ledger.specs.Calls.{call_due};
@@ -108,27 +108,17 @@ impl Journal {
         self.lines.reserve(due + 1)
     }
 
-    /// Adds a line, for which there is room. It takes no memory.
+    /// Adds a line, for which there is room. The script's is that of its next call, where one is left. It takes no
+    /// memory.
     pub fn tell(&mut self, who: Who, what: JournalLine)
         requires room { HasRoomFor who self.old }
         ensures { HasLine (record { who = who; what = what }) self.old self.new }
     {
         self.lines.push_reserved(Entry { who, what });
         match who {
-            Who::Script => self.made += 1,
-            Who::Guest(_) => {}
+            Who::Script if self.made < self.calls.len() => self.made += 1,
+            Who::Script | Who::Guest(_) => {}
         }
-    }
-
-    /// Adds a line for which no call of the script was made, whoever asked. Without memory it adds none.
-    pub fn append(&mut self, entry: Entry) -> Result<(), AllocError>
-        ensures ok { OnOk result (self.new.lines ≡ self.old.lines ++ entry ∷ []) }
-        ensures same { OnErr result (self.new.lines ≡ self.old.lines) }
-        ensures left { self.new.left ≡ self.old.left }
-    {
-        self.reserve()?;
-        self.lines.push_reserved(entry);
-        Ok(())
     }
 
     /// The lines, in order.

@@ -5,8 +5,8 @@
 //! plan are exactly those of its opening; a module joins those that are loaded with the line that a report says of it
 //! and with its data, and may be taken back, or is placed first and taken later; the book of all with it keeps class
 //! numbers; what is known of a module without trying it was found of it behind the same ones; the journal has room for
-//! each line that the script can still add; a guest of an entry begins where the start modules say. Only tested:
-//! nothing. Open: that memory suffices.
+//! each line that the script can still add; a load and a refresh are put in force with their lines; a guest of an entry
+//! begins where the start modules say. Only tested: nothing. Open: that memory suffices.
 #![tactic(auto)]
 
 mod book;
@@ -18,6 +18,7 @@ mod entrant;
 mod entries;
 mod fault;
 mod finding;
+mod force;
 mod journal;
 mod offer;
 mod opening;
@@ -33,10 +34,11 @@ pub use entrant::Entrant;
 pub use entries::entry_at;
 pub use fault::{OpenFault, StartFault};
 pub use finding::{Finding, Known, Outcome};
+pub use force::Force;
 pub use journal::Journal;
 pub use offer::Offer;
 pub use opening::open_modules;
-pub use opens::{given_by, open_answer};
+pub use opens::open_answer;
 pub use prospect::Prospect;
 pub use roster::{Roster, Unjoined};
 pub use telling::join_line;

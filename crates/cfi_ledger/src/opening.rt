@@ -13,6 +13,7 @@ use crate::entrant::Entrant;
 use crate::entries::first_lost;
 use crate::fault::{OpenFault, StartFault};
 use crate::finding::nothing_found;
+use crate::force::Force;
 use crate::journal::Journal;
 use crate::roster::Roster;
 use cfi_aux::Module;
@@ -119,20 +120,15 @@ fn first_books(
     ensures books { IfOk result (λ books. AreOpeningBooks plan.now modules roster books) }
     ensures fault { IfErr result (λ fault. fault ≡ Memory) }
 {
-    let starts = roster.lines().len();
     let journal = Journal::new(alloc, plan.script.as_slice())?;
     let found = nothing_found(alloc, modules.len())?;
     Ok(Books {
         plan: plan_copy(alloc, plan)?,
         modules,
         layout,
-        roster,
+        force: Force::open(plan, roster, journal),
         book,
-        epoch: plan.first,
-        policy: 0,
-        starts,
         found,
-        journal,
         starved: false,
         alloc,
     })

@@ -9,7 +9,7 @@ use cfi_unit::{Answer, Fill, Log};
 use cfi_word::services::NO_FUNCTION;
 
 /// The policy up to which a guest has been given data.
-pub fn given_by(log: &[Log]) -> u32
+pub(crate) fn given_by(log: &[Log]) -> u32
     ensures { result ≡ given_by log.now }
 {
     let mut given = 0;

@@ -27,15 +27,13 @@ use Rattle.cfi_word.specs.declared.limits.TheConstants.{MAX_EPOCH}
 use Rattle.cfi_ledger.specs.declared.books.Books.{Books}
 use Rattle.cfi_loader.specs.declared.fault.LoadFault.TheVariants as loads
 use Rattle.cfi_loader.specs.declared.loaded.Loaded.{Loaded}
-use Rattle.cfi_ledger.specs.Journal.{asked_by}
+use Rattle.cfi_ledger.specs.Journal.{asked_by, HasLine}
 use Rattle.cfi_loader.specs.Results.{fault_line, SaysOf, RefusesBy}
-use Rattle.cfi_ledger.specs.Opens.{IsAddressOf}
+use Rattle.cfi_ledger.specs.Opens.{IsAddressOf, IsFirstGlobal}
 use Rattle.cfi_loader.specs.Told.{MayAskFor}
-use Rattle.cfi_ledger.specs.Books.{course_in, end_of_books, loaded_in}
+use Rattle.cfi_ledger.specs.Books.{course_in, end_of_books, loaded_in, with_journal}
 use Rattle.cfi_loader.specs.inner.Books.{ledger_of, BooksAgree, IsAfter}
-use Rattle.cfi_ledger.specs.Journal.{HasLine}
 use Rattle.cfi_ledger.specs.Loads.{IsAbsent, IsListed, IsSpent, IsUnprepared}
-use Rattle.cfi_ledger.specs.Opens.{IsFirstGlobal}
 use Rattle.cfi_loader.specs.inner.Loads.{LoadsTo, Refuses, load_fault_of}
 use Rattle.cfi_loader.proofs.BooksLemmas.{after_same}
 use Rattle.cfi_loader.proofs.LineLemmas.{line_again}
@@ -59,37 +57,40 @@ module _ (k : Key) (b : Books) (keeping : Keeping) (kept : BooksAgree k b keepin
     (asks : MayAskFor (ledger_of b keeping) who (Load number)) where
   -- ---- a module that is loaded
 
-  pub again_answers : (new : Books) (at : ℕ) → HasLine (asked_by who (LoadAgain number b.policy)) b.journal new.journal
-      → new ≡ record b { journal = new.journal } → IsListed b.roster number at → (answer : Loaded)
-      → answer.again ≡ true → answer.epoch ≡ b.epoch → answer.policy ≡ b.policy → (p : Placed)
-      → IsFirstGlobal (get_or b.roster.placed at p) answer.address → LoadsTo k who number answer b new keeping keeping
+  pub again_answers : (new : Books) (at : ℕ)
+      → HasLine (asked_by who (LoadAgain number b.force.policy)) b.force.journal new.force.journal
+      → new ≡ with_journal new.force.journal b → IsListed b.force.roster number at → (answer : Loaded)
+      → answer.again ≡ true → answer.epoch ≡ b.force.epoch → answer.policy ≡ b.force.policy → (p : Placed)
+      → IsFirstGlobal (get_or b.force.roster.placed at p) answer.address
+      → LoadsTo k who number answer b new keeping keeping
   again_answers new at has same listed answer again epoch policy p first =
-      let may = may_ask (ledger_of b keeping) who (Load number) (LoadAgain number b.policy) asks refl in
-      let is_loaded = listed_loaded b.roster kept.roster_is.many number at listed p in
-      let all : IsAfter k (asked_by who (LoadAgain number b.policy)) b (record b { journal = new.journal }) keeping
+      let may = may_ask (ledger_of b keeping) who (Load number) (LoadAgain number b.force.policy) asks refl in
+      let is_loaded = listed_loaded b.force.roster kept.roster_is.many number at listed p in
+      let all : IsAfter k (asked_by who (LoadAgain number b.force.policy)) b (with_journal new.force.journal b) keeping
       keeping =
-      after_same k b new.journal keeping kept who (LoadAgain number b.policy) has asks
+      after_same k b new.force.journal keeping kept who (LoadAgain number b.force.policy) has asks
       (may, (record { loaded = is_loaded; force = refl }, refl)) refl refl refl in
-      let to_new : IsAfter k (asked_by who (LoadAgain number b.policy)) b new keeping keeping =
-      subst (λ (nb : Books). IsAfter k (asked_by who (LoadAgain number b.policy)) b nb keeping keeping) (sym same)
+      let to_new : IsAfter k (asked_by who (LoadAgain number b.force.policy)) b new keeping keeping =
+      subst (λ (nb : Books). IsAfter k (asked_by who (LoadAgain number b.force.policy)) b nb keeping keeping) (sym same)
       all in
       record {
         all = subst (λ (line : JournalLine). IsAfter k (asked_by who line) b new keeping keeping)
-            (sym (line_again number answer b.policy again policy)) to_new;
-        epoch_is = epoch ∙ ap (λ (nb : Books). nb.epoch) (sym same);
-        policy_is = policy ∙ ap (λ (nb : Books). nb.policy) (sym same);
+            (sym (line_again number answer b.force.policy again policy)) to_new;
+        epoch_is = epoch ∙ ap (λ (nb : Books). nb.force.epoch) (sym same);
+        policy_is = policy ∙ ap (λ (nb : Books). nb.force.policy) (sym same);
         address_is = subst (λ (nb : Books). IsAddressOf (loaded_in nb) number answer.address) (sym same)
-            (listed_address b.roster kept.roster_is.many number at listed p answer.address first);
+            (listed_address b.force.roster kept.roster_is.many number at listed p answer.address first);
       }
 
   -- ---- a full loader
 
-  pub full_refuses : (new : Books) → HasLine (asked_by who (LoadFull number)) b.journal new.journal
-      → new ≡ record b { journal = new.journal } → IsFull b.modules (loaded_in b) number
+  pub full_refuses : (new : Books) → HasLine (asked_by who (LoadFull number)) b.force.journal new.force.journal
+      → new ≡ with_journal new.force.journal b → IsFull b.modules (loaded_in b) number
       → Refuses k who number loads.ModulesFull b new keeping keeping
   full_refuses new has same full =
       let may = may_ask (ledger_of b keeping) who (Load number) (LoadFull number) asks refl in
-      let all = after_same k b new.journal keeping kept who (LoadFull number) has asks (may, (full, refl)) refl refl
+      let all = after_same k b new.force.journal keeping kept who (LoadFull number) has asks (may, (full, refl))
+      refl refl
       refl in
       subst (λ (nb : Books). Refuses k who number loads.ModulesFull b nb keeping keeping) (sym same)
       (record { kept = all.kept; fault_is = record { told = all.told; says = tt } })
@@ -102,7 +103,7 @@ module _ (k : Key) (b : Books) (keeping : Keeping) (kept : BooksAgree k b keepin
     there fault unprepared =
         subst (λ (n : ℕ). IsJoinFault n (placed_modules (loaded_in b)) unprepared.unplaced fault)
         kept.roster_is.code_words_are
-        (subst (λ (ps : List Placed). IsJoinFault b.roster.code_words ps unprepared.unplaced fault)
+        (subst (λ (ps : List Placed). IsJoinFault b.force.roster.code_words ps unprepared.unplaced fault)
         (sym (places k b keeping kept)) unprepared.why)
 
     refused_by_line : (fault : JoinFault) (told : FaultNumbers) → IsUnprepared b number fault
@@ -120,20 +121,22 @@ module _ (k : Key) (b : Books) (keeping : Keeping) (kept : BooksAgree k b keepin
     }
 
     after_numbers : (fault : JoinFault) (told : FaultNumbers) → IsUnprepared b number fault
-        → numbers_of fault ≡ Some told → HasLine (asked_by who (numbered_line number told)) b.journal new.journal
-        → IsAfter k (asked_by who (numbered_line number told)) b (record b { journal = new.journal }) keeping keeping
+        → numbers_of fault ≡ Some told
+        → HasLine (asked_by who (numbered_line number told)) b.force.journal new.force.journal
+        → IsAfter k (asked_by who (numbered_line number told)) b (with_journal new.force.journal b) keeping keeping
     after_numbers fault (numbers.Place kind) unprepared is has =
         let may = may_ask (ledger_of b keeping) who (Load number) (LoadPlace number kind) asks refl in
-        after_same k b new.journal keeping kept who (LoadPlace number kind) has asks
+        after_same k b new.force.journal keeping kept who (LoadPlace number kind) has asks
         (may, (refused_by_line fault (numbers.Place kind) unprepared is, refl)) refl refl refl
     after_numbers fault (numbers.Verify kind place) unprepared is has =
         let may = may_ask (ledger_of b keeping) who (Load number) (LoadVerify number kind place) asks refl in
-        after_same k b new.journal keeping kept who (LoadVerify number kind place) has asks
+        after_same k b new.force.journal keeping kept who (LoadVerify number kind place) has asks
         (may, (refused_by_line fault (numbers.Verify kind place) unprepared is, refl)) refl refl refl
 
     numbered : (fault : JoinFault) → IsUnprepared b number fault → numbers_of fault ≡ None → fault ≢ Memory → ⊥
     numbered fault unprepared none some =
-        let has = has_numbers b.roster.code_words b.roster.placed unprepared.unplaced fault unprepared.why some in
+        let has = has_numbers b.force.roster.code_words b.force.roster.placed unprepared.unplaced fault
+        unprepared.why some in
         no_numbers has.0 (sym none ∙ has.1)
 
     says_of : (fault : JoinFault) → IsUnprepared b number fault
@@ -158,13 +161,14 @@ module _ (k : Key) (b : Books) (keeping : Keeping) (kept : BooksAgree k b keepin
 
     -- the line tells its numbers
     pub told_refuses : (fault : JoinFault) (told : FaultNumbers) → IsUnprepared b number fault
-        → numbers_of fault ≡ Some told → HasLine (asked_by who (numbered_line number told)) b.journal new.journal
-        → new ≡ record b { journal = new.journal } → Refuses k who number (load_fault_of fault) b new keeping keeping
+        → numbers_of fault ≡ Some told
+        → HasLine (asked_by who (numbered_line number told)) b.force.journal new.force.journal
+        → new ≡ with_journal new.force.journal b → Refuses k who number (load_fault_of fault) b new keeping keeping
     told_refuses fault told unprepared is has same =
         let all = after_numbers fault told unprepared is has in
         let line : fault_line number (load_fault_of fault) ≡ Some (numbered_line number told) =
         line_is fault ∙ ap (option_map (numbered_line number)) is in
-        let books : Books = record b { journal = new.journal } in
+        let books : Books = with_journal new.force.journal b in
         subst (λ (nb : Books). Refuses k who number (load_fault_of fault) b nb keeping keeping) (sym same) (record {
           kept = all.kept;
           fault_is = subst (λ (o : Option JournalLine). RefusesBy k who number (load_fault_of fault) o
@@ -189,7 +193,7 @@ module _ (k : Key) (b : Books) (keeping : Keeping) (kept : BooksAgree k b keepin
         line_is fault ∙ ap (option_map (numbered_line number)) none in
         let books : Books = record b { starved = true } in
         subst (λ (nb : Books). Refuses k who number (load_fault_of fault) b nb keeping keeping) (sym same) (record {
-          kept = reserved_kept k b keeping b.journal true kept refl refl;
+          kept = reserved_kept k b keeping b.force.journal true kept refl refl;
           fault_is = subst (λ (o : Option JournalLine). RefusesBy k who number (load_fault_of fault) o
               (ledger_of b keeping) (ledger_of books keeping)) (sym line) (memory_is fault unprepared none, refl);
         })
@@ -197,12 +201,14 @@ module _ (k : Key) (b : Books) (keeping : Keeping) (kept : BooksAgree k b keepin
   -- ---- a module that joins, where no epoch is left
 
   pub spent_refuses : (absent : IsAbsent b number) (new : Books) → IsSpent b number
-      → HasLine (asked_by who (LoadEpochs number)) b.journal new.journal → new ≡ record b { journal = new.journal }
+      → HasLine (asked_by who (LoadEpochs number)) b.force.journal new.force.journal
+      → new ≡ with_journal new.force.journal b
       → Refuses k who number loads.EpochsSpent b new keeping keeping
   spent_refuses absent new spent has same =
       let joins = spent.joins in
-      let there : Joins b.plan.code_words b.roster.placed joins.unplaced joins.placed =
-      subst (λ (n : ℕ). Joins n b.roster.placed joins.unplaced joins.placed) kept.roster_is.code_words_are joins.joins
+      let there : Joins b.plan.code_words b.force.roster.placed joins.unplaced joins.placed =
+      subst (λ (n : ℕ). Joins n b.force.roster.placed joins.unplaced joins.placed) kept.roster_is.code_words_are
+      joins.joins
       in
       let is_clean : IsClean b.plan b.modules (end_of_books b) number = record {
         absent = record { unplaced = joins.unplaced; is = joins.is; absent = absent.absent; room = absent.room };
@@ -211,7 +217,7 @@ module _ (k : Key) (b : Books) (keeping : Keeping) (kept : BooksAgree k b keepin
             (sym (places k b keeping kept)) there;
       } in
       let none : epoch_after k keeping ≡ MAX_EPOCH + 1 = omega (arith, spent.last, kept.ledger.told.epoch) in
-      let all = after_load_refused k b keeping kept new.journal keeping who number EpochsSpent (λ _. refl)
+      let all = after_load_refused k b keeping kept new.force.journal keeping who number EpochsSpent (λ _. refl)
       (none, refl) has asks is_clean in
       subst (λ (nb : Books). Refuses k who number loads.EpochsSpent b nb keeping keeping) (sym same)
       (record { kept = all.kept; fault_is = record { told = all.told; says = tt } })

@@ -18,41 +18,31 @@ use Rattle.cfi_valid.specs.Journal.{EntryLeads, MayAsk}
 use Rattle.cfi_valid.specs.Script.{call_of}
 use Rattle.cfi_word.specs.declared.limits.TheConstants.{MAX_EPOCH}
 use Rattle.cfi_ledger.specs.declared.books.Books.{Books}
-use Rattle.cfi_ledger.specs.Policies.{HavePolicies, IsEntryOf}
+use Rattle.cfi_ledger.specs.Policies.{IsEntryOf}
 use Rattle.cfi_loader.specs.Ledger.{TellsOf}
 use Rattle.cfi_loader.specs.Mark.{mark_of, is_made, spent_in}
-use Rattle.cfi_ledger.specs.Journal.{asked_by}
+use Rattle.cfi_ledger.specs.Journal.{asked_by, Minutes, HasLine}
 use Rattle.cfi_loader.specs.Told.{GoesOnBy, MayAskFor, HasTold, KeepsAfter}
-use Rattle.cfi_ledger.specs.Books.{course_in, end_of_books, IsRosterOf}
+use Rattle.cfi_ledger.specs.Books.{course_in, end_of_books, with_journal}
+use Rattle.cfi_ledger.specs.Force.{with_refresh}
 use Rattle.cfi_loader.specs.inner.Books.{ledger_of, BooksAgree, IsAfter}
-use Rattle.cfi_ledger.specs.Journal.{Minutes, HasLine}
 use Rattle.cfi_ledger.proofs.EntryLemmas.{entry_again, entry_stays}
 use Rattle.cfi_loader.proofs.LedgerLemmas.{goes_later, ledger_more}
 use Rattle.cfi_ledger.proofs.PolicyLemmas.{policies_same}
 use Rattle.cfi_loader.proofs.TellLemmas.{tells_same, tells_refused, tells_grown, last_more}
 
 module _ (k : Key) (b : Books) (j : Minutes) (keeping : Keeping) (kept : BooksAgree k b keeping) (who : Who)
-    (what : JournalLine) (has : HasLine (asked_by who what) b.journal j)
+    (what : JournalLine) (has : HasLine (asked_by who what) b.force.journal j)
     (asks : MayAskFor (ledger_of b keeping) who (call_of what)) where
   abbrev entry : Entry
   entry = asked_by who what
 
   abbrev told_there : Books
-  told_there = record b { journal = j }
+  told_there = with_journal j b
 
   goes : EntryLeads b.plan b.modules (end_of_books b) entry (end_of_books b)
       → GoesOnBy entry (course_in b) (course_in told_there)
   goes leads = record { plan_is = refl; modules_are = refl; journal_is = has.lines_are; leads = leads }
-
-  roster_there : IsRosterOf told_there
-  roster_there = record {
-    code_words_are = kept.roster_is.code_words_are;
-    many = kept.roster_is.many;
-    lines_are = kept.roster_is.lines_are;
-  }
-
-  policies_there : HavePolicies b.plan (end_of_books told_there)
-  policies_there = policies_same b.plan (end_of_books b) kept.ledger.policies (end_of_books told_there) refl refl
 
   -- the line tells of nothing that has changed
   pub after_same : EntryLeads b.plan b.modules (end_of_books b) entry (end_of_books b)
@@ -67,12 +57,11 @@ module _ (k : Key) (b : Books) (j : Minutes) (keeping : Keeping) (kept : BooksAg
       record {
         kept = record {
           ledger = ledger_more k b.plan b.modules who what (ledger_of b keeping) (ledger_of told_there keeping)
-              kept.ledger asks told policies_there tells;
-          roster_is = roster_there;
+              kept.ledger asks told kept.ledger.policies tells;
+          roster_is = kept.roster_is;
           layout_is = kept.layout_is;
           book_is = kept.book_is;
           image_is = kept.image_is;
-          starts_are = kept.starts_are;
           found_are = kept.found_are;
         };
         told = told;
@@ -104,12 +93,11 @@ module _ (k : Key) (b : Books) (j : Minutes) (keeping : Keeping) (kept : BooksAg
       record {
         kept = record {
           ledger = ledger_more k b.plan b.modules who what (ledger_of b keeping) (ledger_of told_there new)
-              kept.ledger asks told policies_there tells;
-          roster_is = roster_there;
+              kept.ledger asks told kept.ledger.policies tells;
+          roster_is = kept.roster_is;
           layout_is = kept.layout_is;
           book_is = kept.book_is;
           image_is = kept.image_is ∙ ap (λ (all : Keeping). (last_of all.entries).image) (sym new_is);
-          starts_are = kept.starts_are;
           found_are = kept.found_are;
         };
         told = told;
@@ -123,7 +111,7 @@ module _ (k : Key) (b : Books) (keeping : Keeping) (kept : BooksAgree k b keepin
       told.images (length keeping.entries - 1) no_entry (omega (arith, told.tables.some))
 
   -- an epoch is left
-  pub one_left : b.epoch < MAX_EPOCH → k.first + length keeping.entries < MAX_EPOCH + 1
+  pub one_left : b.force.epoch < MAX_EPOCH → k.first + length keeping.entries < MAX_EPOCH + 1
   one_left left = omega (arith, left, kept.ledger.told.epoch)
 
 -- ---- a refresh that was made
@@ -134,17 +122,17 @@ module _ (k : Key) (b : Books) (j : Minutes) (keeping : Keeping) (kept : BooksAg
   last = last_of keeping.entries
 
   abbrev again : TableEntry
-  again = entry_by last.policy last.image (mark_of (asked_by who (RefreshOk (b.epoch + 1))))
+  again = entry_by last.policy last.image (mark_of (asked_by who (RefreshOk (b.force.epoch + 1))))
 
   abbrev refreshed : Books
-  refreshed = record b { journal = j; epoch = b.epoch + 1 }
+  refreshed = record b { force = with_refresh j b.force }
 
-  pub after_refreshed : HasLine (asked_by who (RefreshOk (b.epoch + 1))) b.journal j
-      → MayAskFor (ledger_of b keeping) who (call_of (RefreshOk (b.epoch + 1)))
-      → MayAsk b.plan who (RefreshOk (b.epoch + 1)) → b.epoch < MAX_EPOCH
-      → IsAfter k (asked_by who (RefreshOk (b.epoch + 1))) b refreshed keeping (grown_by again quiets keeping)
+  pub after_refreshed : HasLine (asked_by who (RefreshOk (b.force.epoch + 1))) b.force.journal j
+      → MayAskFor (ledger_of b keeping) who (call_of (RefreshOk (b.force.epoch + 1)))
+      → MayAsk b.plan who (RefreshOk (b.force.epoch + 1)) → b.force.epoch < MAX_EPOCH
+      → IsAfter k (asked_by who (RefreshOk (b.force.epoch + 1))) b refreshed keeping (grown_by again quiets keeping)
   after_refreshed has asks may left =
-      let entry : Entry = asked_by who (RefreshOk (b.epoch + 1)) in
+      let entry : Entry = asked_by who (RefreshOk (b.force.epoch + 1)) in
       let goes : GoesOnBy entry (course_in b) (course_in refreshed) = record {
         plan_is = refl;
         modules_are = refl;
@@ -165,18 +153,13 @@ module _ (k : Key) (b : Books) (j : Minutes) (keeping : Keeping) (kept : BooksAg
       kept.ledger.told.policy is refl refl refl refl in
       record {
         kept = record {
-          ledger = ledger_more k b.plan b.modules who (RefreshOk (b.epoch + 1)) (ledger_of b keeping)
+          ledger = ledger_more k b.plan b.modules who (RefreshOk (b.force.epoch + 1)) (ledger_of b keeping)
               (ledger_of refreshed (grown_by again quiets keeping)) kept.ledger asks told
               (policies_same b.plan (end_of_books b) kept.ledger.policies (end_of_books refreshed) refl refl) tells;
-          roster_is = record {
-            code_words_are = kept.roster_is.code_words_are;
-            many = kept.roster_is.many;
-            lines_are = kept.roster_is.lines_are;
-          };
+          roster_is = kept.roster_is;
           layout_is = kept.layout_is;
           book_is = kept.book_is;
           image_is = kept.image_is ∙ ap (λ (e : TableEntry). e.image) (sym (last_more keeping.entries again));
-          starts_are = kept.starts_are;
           found_are = kept.found_are;
         };
         told = told;

@@ -33,13 +33,12 @@ use Rattle.cfi_ledger.specs.Entries.{AllEnter}
 use Rattle.cfi_ledger.specs.Finding.{AreFindings}
 use Rattle.cfi_ledger.specs.Journal.{Minutes}
 use Rattle.cfi_ledger.specs.Opening.{books_at, AreOpeningBooks}
-use Rattle.cfi_ledger.specs.Roster.{Roster, IsBookOfRoster, origin_of}
+use Rattle.cfi_ledger.specs.Roster.{Roster, IsBookOfRoster}
 use Rattle.cfi_ledger.specs.Starts.{AreStarted, opened_state}
 use Rattle.cfi_ledger.proofs.EntryLemmas.{entry_of_all}
 use Rattle.cfi_ledger.proofs.FindingLemmas.{findings_none}
 use Rattle.cfi_ledger.proofs.PolicyLemmas.{policies_below}
-use Rattle.cfi_valid.proofs.KeptLemmas.{many_are}
-use Rattle.cfi_ledger.proofs.StartLemmas.{started_all, started_count}
+use Rattle.cfi_ledger.proofs.StartLemmas.{started_all}
 use Rattle.cfi_ledger.proofs.OpeningLemmas.{entries, journal_none, labels, places, policies, start_closed, start_loaded}
 
 -- ---- the start
@@ -102,16 +101,10 @@ module _ (plan : Plan) (modules : List Module) (can : CanStart plan modules) (r 
       script =
           ap (λ (lines : List Entry). made_by_script lines ++ j.left) no_lines ∙ left;
     };
-    roster_is = record {
-      code_words_are = all.code_words_are;
-      many = all.many;
-      lines_are = all.lines_are;
-    };
+    roster_is = all.roster_is;
     layout_is = refl;
     book_is = book_is;
     image_is = refl;
-    starts_are =
-        all.many ∙ sym (many_are origin_of r.lines r.placed all.many) ∙ started_count plan modules r all;
     found_are = subst (AreFindings modules r) (sym none_found) (findings_none modules r);
   }
 
@@ -123,8 +116,8 @@ module _ (plan : Plan) (modules : List Module) (can : CanStart plan modules) (r 
       → BooksAgree k b (opened_keeping k)
   first_kept k k_is enter =
       let key : Key = key_by plan.code_words plan.versions plan.first b.book.image in
-      let kept : BooksAgree key (books_at plan modules r b.book b.journal b) (opened_keeping key) =
-      start_kept plan modules can r all b.book is.book_is b.journal is.lines_are is.left_are enter b
+      let kept : BooksAgree key (books_at plan modules r b.book b.force.journal b) (opened_keeping key) =
+      start_kept plan modules can r all b.book is.book_is b.force.journal is.lines_are is.left_are enter b
       is.none_found in
       subst (λ (x : Key). BooksAgree x b (opened_keeping x)) (sym k_is)
       (subst (λ (nb : Books). BooksAgree key nb (opened_keeping key)) (sym is.is) kept)

@@ -1,5 +1,5 @@
 -- A load that was prepared.
-use Rattle.std.proofs.Common.{◌≡◌, ℕ, ◌+◌, ◌<◌, ◌++◌, List, [], ◌∷◌, inr, refl, sym, subst, ◌∙◌}
+use Rattle.std.proofs.Common.{ℕ, ◌+◌, ◌<◌, ◌++◌, List, [], ◌∷◌, inr, refl, sym, subst}
 use Rattle.std.proofs.lemmas.Option.{slice_get_within, get_or_from_slice_get}
 use Rattle.cfi_aux.specs.Sound.{IsSoundModule}
 use Rattle.cfi_aux.specs.declared.placed.Placed.{Placed}
@@ -10,7 +10,6 @@ use Rattle.cfi_plan.specs.declared.journal.Who.{Who}
 use Rattle.cfi_policy.specs.Book.{KeptImage}
 use Rattle.cfi_policy.specs.Image.{IsImage}
 use Rattle.cfi_modules.specs.Order.{Joins}
-use Rattle.cfi_tables.specs.Faults.{epoch_after}
 use Rattle.cfi_tables.specs.Keeping.{Keeping, entry_by, grown_by, last_of}
 use Rattle.cfi_tables.specs.Key.{Key}
 use Rattle.cfi_tables.specs.declared.view.Quiets.{Quiets}
@@ -19,11 +18,10 @@ use Rattle.cfi_valid.specs.Script.{Load}
 use Rattle.cfi_word.specs.declared.limits.TheConstants.{MAX_EPOCH}
 use Rattle.cfi_ledger.specs.declared.books.Books.{Books}
 use Rattle.cfi_loader.specs.Mark.{mark_by}
-use Rattle.cfi_ledger.specs.Journal.{asked_by}
+use Rattle.cfi_ledger.specs.Journal.{asked_by, Minutes, HasLine}
 use Rattle.cfi_loader.specs.Told.{MayAskFor}
-use Rattle.cfi_ledger.specs.Books.{end_of_books}
+use Rattle.cfi_ledger.specs.Books.{committed, end_of_books}
 use Rattle.cfi_loader.specs.inner.Books.{ledger_of, BooksAgree, IsAfter}
-use Rattle.cfi_ledger.specs.Journal.{Minutes, HasLine}
 use Rattle.cfi_ledger.specs.Loads.{HasPrepared, IsAbsent}
 use Rattle.cfi_ledger.specs.Roster.{Roster, IsBookOfRoster, IsImageOfRoster}
 use Rattle.cfi_loader.proofs.UpdateLemmas.{may_ask}
@@ -34,9 +32,9 @@ module _ (k : Key) (b : Books) (keeping : Keeping) (kept : BooksAgree k b keepin
   abbrev one : Placed
   one = prepared.joined.one
 
-  joins_there : Joins b.plan.code_words b.roster.placed prepared.unplaced one
+  joins_there : Joins b.plan.code_words b.force.roster.placed prepared.unplaced one
   joins_there =
-      subst (λ (n : ℕ). Joins n b.roster.placed prepared.unplaced one) kept.roster_is.code_words_are
+      subst (λ (n : ℕ). Joins n b.force.roster.placed prepared.unplaced one) kept.roster_is.code_words_are
       prepared.joined.joins
 
   is_sound : IsSoundModule prepared.unplaced
@@ -59,47 +57,32 @@ module _ (k : Key) (b : Books) (keeping : Keeping) (kept : BooksAgree k b keepin
   }
 
   module _ (book : KeptImage) (book_is : IsBookOfRoster roster book) where
-    labels : IsImage (DirectEdge (b.roster.placed ++ one ∷ [])) (b.roster.placed ++ one ∷ []) b.plan.code_words
+    labels : IsImage (DirectEdge (b.force.roster.placed ++ one ∷ [])) (b.force.roster.placed ++ one ∷ [])
+        b.plan.code_words
         book.image
     labels =
-        subst (λ (n : ℕ). IsImage (DirectEdge (b.roster.placed ++ one ∷ [])) (b.roster.placed ++ one ∷ []) n book.image)
+        subst (λ (n : ℕ). IsImage (DirectEdge (b.force.roster.placed ++ one ∷ [])) (b.force.roster.placed ++ one ∷ [])
+        n book.image)
         kept.roster_is.code_words_are
         (subst (λ (r : Roster). IsImageOfRoster r book.image) prepared.joined.is book_is.image)
 
     pub load_update : (mark : ℕ)
-        → IsUpdate k.code_words (last_of keeping.entries) (entry_by (b.policy + 1) book.image mark)
+        → IsUpdate k.code_words (last_of keeping.entries) (entry_by (b.force.policy + 1) book.image mark)
     load_update mark =
         inr (load_follows k b keeping kept prepared.unplaced one book.image is_sound joins_there labels mark
         absent.room)
 
-    abbrev loaded_there_by : (epoch : ℕ) → Minutes → Books
-    loaded_there_by epoch j = record b {
-      journal = j;
-      roster = roster;
-      book = book;
-      epoch = epoch;
-      policy = b.policy + 1;
-    }
-
-    pub load_made : (quiets : Quiets) (who : Who) (epoch : ℕ) (j : Minutes) → epoch ≡ epoch_after k keeping → b.epoch < MAX_EPOCH
-        → HasLine (asked_by who (LoadOk number epoch (b.policy + 1))) b.journal j
+    pub load_made : (quiets : Quiets) (who : Who) (j : Minutes) → b.force.epoch < MAX_EPOCH
+        → HasLine (asked_by who (LoadOk number (b.force.epoch + 1) (b.force.policy + 1))) b.force.journal j
         → MayAskFor (ledger_of b keeping) who (Load number)
-        → IsAfter k (asked_by who (LoadOk number epoch (b.policy + 1))) b (loaded_there_by epoch j) keeping
-        (grown_by (entry_by (b.policy + 1) book.image (mark_by who (Load number))) quiets keeping)
-    load_made quiets who epoch j epoch_is left has asks =
-        let next : b.epoch + 1 ≡ epoch = kept.ledger.told.epoch ∙ sym epoch_is in
-        let grown = grown_by (entry_by (b.policy + 1) book.image (mark_by who (Load number))) quiets keeping in
-        let has_next : HasLine (asked_by who (LoadOk number (b.epoch + 1) (b.policy + 1))) b.journal j =
-        subst (λ (e : ℕ). HasLine (asked_by who (LoadOk number e (b.policy + 1))) b.journal j) (sym next) has in
-        let may = may_ask (ledger_of b keeping) who (Load number) (LoadOk number (b.epoch + 1) (b.policy + 1)) asks
-        refl in
-        let all = after_load k b j keeping kept who number prepared.unplaced one book quiets has_next asks may left
+        → IsAfter k (asked_by who (LoadOk number (b.force.epoch + 1) (b.force.policy + 1))) b (committed roster book j b)
+        keeping (grown_by (entry_by (b.force.policy + 1) book.image (mark_by who (Load number))) quiets keeping)
+    load_made quiets who j left has asks =
+        let grown = grown_by (entry_by (b.force.policy + 1) book.image (mark_by who (Load number))) quiets keeping in
+        let may = may_ask (ledger_of b keeping) who (Load number)
+        (LoadOk number (b.force.epoch + 1) (b.force.policy + 1)) asks refl in
+        let all = after_load k b j keeping kept who number prepared.unplaced one book quiets has asks may left
         prepared.is is_sound absent.absent absent.room joins_there
         (subst (λ (r : Roster). IsBookOfRoster r book) prepared.joined.is book_is) in
-        let there : IsAfter k (asked_by who (LoadOk number (b.epoch + 1) (b.policy + 1))) b
-        (loaded_there_by (b.epoch + 1) j) keeping grown =
-        subst (λ (r : Roster). IsAfter k (asked_by who (LoadOk number (b.epoch + 1) (b.policy + 1))) b
-        (record b { journal = j; roster = r; book = book; epoch = b.epoch + 1; policy = b.policy + 1 }) keeping
-        grown) (sym prepared.joined.is) all in
-        subst (λ (e : ℕ). IsAfter k (asked_by who (LoadOk number e (b.policy + 1))) b (loaded_there_by e j) keeping
-        grown) next there
+        subst (λ (r : Roster). IsAfter k (asked_by who (LoadOk number (b.force.epoch + 1) (b.force.policy + 1))) b
+        (committed r book j b) keeping grown) (sym prepared.joined.is) all

@@ -1,5 +1,5 @@
 -- What a loader tells, of its books.
-use Rattle.std.proofs.Common.{◌≡◌, ℕ, ◌+◌, ◌≤◌, List, take, drop, All, Option, Some, None, sym, ap, ◌∙◌, arith}
+use Rattle.std.proofs.Common.{◌≡◌, ℕ, ◌≤◌, List, take, drop, All, Option, Some, None, sym, ap, ◌∙◌, arith}
 use Rattle.std.specs.Prelude.{IfSome}
 use Rattle.std.proofs.lemmas.List.{take-map}
 use Rattle.std.proofs.lemmas.List.Elements.{All-drop}
@@ -10,53 +10,49 @@ use Rattle.cfi_modules.proofs.PrefixLemmas.{data_lies}
 use Rattle.cfi_tables.specs.Keeping.{Keeping}
 use Rattle.cfi_tables.specs.Key.{Key}
 use Rattle.cfi_valid.specs.Guests.{EntersIn, GuestBegins}
-use Rattle.cfi_valid.specs.Loaded.{LoadedModule, placed_modules, loaded_by, fills_between}
+use Rattle.cfi_valid.specs.Loaded.{LoadedModule, placed_modules, loaded_by}
 use Rattle.cfi_word.specs.declared.limits.TheConstants.{MAX_POLICY}
 use Rattle.cfi_ledger.specs.declared.books.Books.{Books}
+use Rattle.cfi_ledger.specs.Force.{starts_in}
 use Rattle.cfi_ledger.specs.Books.{end_of_books, loaded_in}
 use Rattle.cfi_loader.specs.inner.Books.{BooksAgree}
-use Rattle.cfi_ledger.proofs.DueLemmas.{starts_first, later_fills}
+use Rattle.cfi_ledger.proofs.DueLemmas.{starts_are, starts_first}
 use Rattle.cfi_loader.proofs.LoadLemmas.{places, series}
 use Rattle.cfi_ledger.proofs.OpeningLemmas.{begins_from, begins_to}
 
 module _ (k : Key) (b : Books) (keeping : Keeping) (kept : BooksAgree k b keeping) where
-  -- the start modules are the first ones
-  pub starts_placed : placed_modules (loaded_by 0 (loaded_in b)) ≡ take b.starts b.roster.placed
-  starts_placed =
-      ap placed_modules (starts_first b.plan (end_of_books b) kept.ledger.policies)
-      ∙ ap (λ (n : ℕ). placed_modules (take n (loaded_in b))) (sym kept.starts_are)
-      ∙ sym (take-map (λ (l : LoadedModule). l.placed) b.starts (loaded_in b))
-      ∙ ap (take b.starts) (places k b keeping kept)
+  module _ (first : ℕ) (first_is : first ≡ starts_in b.force) where
+    -- the start modules are the first ones
+    pub starts_placed : placed_modules (loaded_by 0 (loaded_in b)) ≡ take first b.force.roster.placed
+    starts_placed =
+        ap placed_modules (starts_first b.plan (end_of_books b) kept.ledger.policies)
+        ∙ ap (λ (n : ℕ). placed_modules (take n (loaded_in b)))
+        (starts_are b.plan b.force kept.ledger.policies kept.roster_is ∙ sym first_is)
+        ∙ sym (take-map (λ (l : LoadedModule). l.placed) first (loaded_in b))
+        ∙ ap (take first) (places k b keeping kept)
 
-  -- where a guest begins
-  pub entry_some : (ms : List Placed) → ms ≡ b.roster.placed → (name : List ℕ) (found : Option ℕ)
-      → IfSome found (EntersIn b.plan (take b.starts ms) name) → IfSome found (GuestBegins b.plan (loaded_in b) name)
-  entry_some ms same name None some = tt
-  entry_some ms same name (Some address) some =
-      begins_from b.plan (loaded_in b) (take b.starts ms) (starts_placed ∙ ap (take b.starts) (sym same)) name address
-      some
+    -- where a guest begins
+    pub entry_some : (ms : List Placed) → ms ≡ b.force.roster.placed → (name : List ℕ) (found : Option ℕ)
+        → IfSome found (EntersIn b.plan (take first ms) name) → IfSome found (GuestBegins b.plan (loaded_in b) name)
+    entry_some ms same name None some = tt
+    entry_some ms same name (Some address) some =
+        begins_from b.plan (loaded_in b) (take first ms) (starts_placed ∙ ap (take first) (sym same)) name address
+        some
 
-  pub entry_only : (ms : List Placed) → ms ≡ b.roster.placed → (name : List ℕ) (found : Option ℕ)
-      → ((address : ℕ) → EntersIn b.plan (take b.starts ms) name address → found ≡ Some address) → (address : ℕ)
-      → GuestBegins b.plan (loaded_in b) name address → found ≡ Some address
-  entry_only ms same name found only address begins =
-      only address
-      (begins_to b.plan (loaded_in b) (take b.starts ms) (starts_placed ∙ ap (take b.starts) (sym same)) name address
-      begins)
+    pub entry_only : (ms : List Placed) → ms ≡ b.force.roster.placed → (name : List ℕ) (found : Option ℕ)
+        → ((address : ℕ) → EntersIn b.plan (take first ms) name address → found ≡ Some address) → (address : ℕ)
+        → GuestBegins b.plan (loaded_in b) name address → found ≡ Some address
+    entry_only ms same name found only address begins =
+        only address
+        (begins_to b.plan (loaded_in b) (take first ms) (starts_placed ∙ ap (take first) (sym same)) name address
+        begins)
 
   -- ---- the data that a guest lacks
 
-  pub policy_most : b.policy ≤ MAX_POLICY
+  pub policy_most : b.force.policy ≤ MAX_POLICY
   policy_most = omega (arith, kept.ledger.policies.count, kept.ledger.policies.most)
 
-  pub fills_lie : (given : ℕ) → All LiesInData (drop given (fills_of b.roster.placed))
+  pub fills_lie : (given : ℕ) → All LiesInData (drop given (fills_of b.force.roster.placed))
   fills_lie given =
-      All-drop LiesInData given (fills_of b.roster.placed)
-      (data_lies b.plan.code_words b.roster.placed (series k b keeping kept))
-
-  pub fills_due : (above : ℕ)
-      → fills_between above b.policy (loaded_in b) ≡ drop (b.starts + above) (fills_of b.roster.placed)
-  fills_due above =
-      later_fills b.plan (end_of_books b) kept.ledger.policies above
-      ∙ ap (λ (n : ℕ). drop (n + above) (fills_of (placed_modules (loaded_in b)))) (sym kept.starts_are)
-      ∙ ap (λ (ps : List Placed). drop (b.starts + above) (fills_of ps)) (places k b keeping kept)
+      All-drop LiesInData given (fills_of b.force.roster.placed)
+      (data_lies b.plan.code_words b.force.roster.placed (series k b keeping kept))

@@ -11,12 +11,11 @@ use Rattle.cfi_ledger.specs.declared.books.Books.{Books}
 use Rattle.cfi_loader.specs.declared.fault.LoadFault.{LoadFault}
 use Rattle.cfi_loader.specs.declared.loaded.Loaded.{Loaded}
 use Rattle.cfi_loader.specs.Ledger.{Ledger, IsLedger}
-use Rattle.cfi_ledger.specs.Journal.{asked_by}
+use Rattle.cfi_ledger.specs.Journal.{asked_by, Minutes}
 use Rattle.cfi_loader.specs.Results.{loaded_line, IsLoadFault}
 use Rattle.cfi_loader.specs.Told.{HasTold}
-use Rattle.cfi_ledger.specs.Books.{course_in, end_of_books}
+use Rattle.cfi_ledger.specs.Books.{course_in, end_of_books, with_journal}
 use Rattle.cfi_loader.specs.inner.Books.{ledger_of, BooksAgree, IsAfter}
-use Rattle.cfi_ledger.specs.Journal.{Minutes}
 use Rattle.cfi_loader.specs.inner.Loads.{LoadsTo, Refuses}
 
 -- a ledger that says otherwise whether memory was missing
@@ -36,10 +35,10 @@ starved_ledger k plan modules l starved is = record {
 
 module _ (k : Key) (b : Books) (keeping : Keeping) (j : Minutes) (starved : Bool) where
   abbrev there : Books
-  there = record b { journal = j; starved = starved }
+  there = record (with_journal j b) { starved = starved }
 
   -- with the same lines and the same calls the ledger is the same but for that
-  pub reserved_ledger : j.lines ≡ b.journal.lines → j.left ≡ b.journal.left
+  pub reserved_ledger : j.lines ≡ b.force.journal.lines → j.left ≡ b.force.journal.left
       → ledger_of there keeping ≡ record (ledger_of b keeping) { starved = starved }
   reserved_ledger lines left =
       ap (λ (ls : List Entry). record {
@@ -55,37 +54,34 @@ module _ (k : Key) (b : Books) (keeping : Keeping) (j : Minutes) (starved : Bool
         starved = starved;
       }) left
 
-  pub reserved_kept : BooksAgree k b keeping → j.lines ≡ b.journal.lines → j.left ≡ b.journal.left
+  pub reserved_kept : BooksAgree k b keeping → j.lines ≡ b.force.journal.lines → j.left ≡ b.force.journal.left
       → BooksAgree k there keeping
   reserved_kept kept lines left = record {
     ledger = subst (IsLedger k b.plan b.modules) (sym (reserved_ledger lines left))
         (starved_ledger k b.plan b.modules (ledger_of b keeping) starved kept.ledger);
-    roster_is = record {
-      code_words_are = kept.roster_is.code_words_are;
-      many = kept.roster_is.many;
-      lines_are = kept.roster_is.lines_are;
-    };
+    roster_is = kept.roster_is;
     layout_is = kept.layout_is;
     book_is = kept.book_is;
     image_is = kept.image_is;
-    starts_are = kept.starts_are;
     found_are = kept.found_are;
   }
 
 -- ---- room for the line of a load
 
 module _ (k : Key) (b mid : Books) (keeping : Keeping) (kept : BooksAgree k b keeping)
-    (lines : mid.journal.lines ≡ b.journal.lines) (left : mid.journal.left ≡ b.journal.left) where
+    (lines : mid.force.journal.lines ≡ b.force.journal.lines)
+    (left : mid.force.journal.left ≡ b.force.journal.left) where
   -- there is some
-  module _ (same : mid ≡ record b { journal = mid.journal; starved = b.starved }) where
+  module _ (same : mid ≡ record (with_journal mid.force.journal b) { starved = b.starved }) where
     pub reserved : BooksAgree k mid keeping
     reserved =
         subst (λ (m : Books). BooksAgree k m keeping) (sym same)
-        (reserved_kept k b keeping mid.journal b.starved kept lines left)
+        (reserved_kept k b keeping mid.force.journal b.starved kept lines left)
 
     pub ledger_same : ledger_of mid keeping ≡ ledger_of b keeping
     ledger_same =
-        ap (λ (m : Books). ledger_of m keeping) same ∙ reserved_ledger k b keeping mid.journal b.starved lines left
+        ap (λ (m : Books). ledger_of m keeping) same
+        ∙ reserved_ledger k b keeping mid.force.journal b.starved lines left
 
     after_from : (entry : Entry) (new : Books) (after : Keeping) → IsAfter k entry mid new keeping after
         → IsAfter k entry b new keeping after

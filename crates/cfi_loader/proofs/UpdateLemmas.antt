@@ -18,12 +18,12 @@ use Rattle.cfi_word.specs.declared.lists.Image.{Image}
 use Rattle.cfi_ledger.specs.declared.books.Books.{Books}
 use Rattle.cfi_loader.specs.Ledger.{Ledger}
 use Rattle.cfi_loader.specs.Mark.{mark_by}
-use Rattle.cfi_ledger.specs.Journal.{asked_by}
+use Rattle.cfi_ledger.specs.Journal.{asked_by, Minutes, HasLine}
 use Rattle.cfi_loader.specs.Results.{refused_refresh}
 use Rattle.cfi_loader.specs.Told.{MayAskFor}
-use Rattle.cfi_ledger.specs.Books.{end_of_books}
+use Rattle.cfi_ledger.specs.Books.{end_of_books, with_journal}
+use Rattle.cfi_ledger.specs.Force.{with_refresh}
 use Rattle.cfi_loader.specs.inner.Books.{ledger_of, BooksAgree, IsAfter}
-use Rattle.cfi_ledger.specs.Journal.{Minutes, HasLine}
 use Rattle.cfi_loader.specs.inner.Loads.{update_line}
 use Rattle.cfi_loader.proofs.BooksLemmas.{after_same, after_refused, after_refreshed}
 
@@ -38,23 +38,23 @@ abbrev pub IsRight : Key → Keeping → UpdateFault → Type 0
 IsRight k keeping fault = epoch_after k keeping ≡ MAX_EPOCH + 1 → fault ≡ EpochsSpent
 
 module _ (k : Key) (b : Books) (keeping : Keeping) (kept : BooksAgree k b keeping) where
-  pub epoch_left : (epoch_after k keeping ≢ MAX_EPOCH + 1) → b.epoch < MAX_EPOCH
+  pub epoch_left : (epoch_after k keeping ≢ MAX_EPOCH + 1) → b.force.epoch < MAX_EPOCH
   epoch_left some = ⊎_elim
-      (λ (left : b.epoch < MAX_EPOCH). left)
-      (λ (spent : MAX_EPOCH ≤ b.epoch).
+      (λ (left : b.force.epoch < MAX_EPOCH). left)
+      (λ (spent : MAX_EPOCH ≤ b.force.epoch).
       absurd (some (omega (arith, spent, kept.ledger.told.epoch, kept.ledger.told.tables.epochs_fit))))
-      (cases_lt b.epoch MAX_EPOCH)
+      (cases_lt b.force.epoch MAX_EPOCH)
 
   none_left : epoch_after k keeping ≡ MAX_EPOCH + 1 → IsOutOfEpochs (end_of_books b)
   none_left spent = omega (arith, spent, kept.ledger.told.epoch)
 
-  versions_left : (guest quiet : ℕ) → IsRight k keeping (VersionsSpent guest quiet) → b.epoch < MAX_EPOCH
+  versions_left : (guest quiet : ℕ) → IsRight k keeping (VersionsSpent guest quiet) → b.force.epoch < MAX_EPOCH
   versions_left guest quiet right = epoch_left (λ spent. other (right spent))
     where
       other : VersionsSpent guest quiet ≡ EpochsSpent → ⊥
       other same = cc
 
-  too_old : (guest quiet : ℕ) → IsFarBehind k keeping guest quiet → b.epoch < MAX_EPOCH
+  too_old : (guest quiet : ℕ) → IsFarBehind k keeping guest quiet → b.force.epoch < MAX_EPOCH
       → IsTooOld b.plan (end_of_books b) guest quiet
   too_old guest quiet behind left =
       let tables = kept.ledger.tables_are in
@@ -69,12 +69,13 @@ module _ (k : Key) (b : Books) (keeping : Keeping) (kept : BooksAgree k b keepin
 
   module _ (j : Minutes) (new : Keeping) where
     abbrev told_there : Books
-    told_there = record b { journal = j }
+    told_there = with_journal j b
 
     -- a refresh that the keeper has refused
     pub after_refresh_refused : (fault : UpdateFault) → IsRight k keeping fault
         → FaultIs k (mark_by Script Refresh) keeping new fault
-        → HasLine (asked_by Script (refused_refresh fault)) b.journal j → MayAskFor (ledger_of b keeping) Script Refresh
+        → HasLine (asked_by Script (refused_refresh fault)) b.force.journal j
+        → MayAskFor (ledger_of b keeping) Script Refresh
         → IsAfter k (asked_by Script (refused_refresh fault)) b told_there keeping new
     after_refresh_refused EpochsSpent right is has asks =
         subst (IsAfter k (asked_by Script RefreshEpochs) b told_there keeping) (sym is.1)
@@ -86,7 +87,7 @@ module _ (k : Key) (b : Books) (keeping : Keeping) (kept : BooksAgree k b keepin
     -- a load
     pub after_load_refused : (who : Who) (number : ℕ) (fault : UpdateFault) → IsRight k keeping fault
         → FaultIs k (mark_by who (Load number)) keeping new fault
-        → HasLine (asked_by who (update_line number fault)) b.journal j
+        → HasLine (asked_by who (update_line number fault)) b.force.journal j
         → MayAskFor (ledger_of b keeping) who (Load number) → IsClean b.plan b.modules (end_of_books b) number
         → IsAfter k (asked_by who (update_line number fault)) b told_there keeping new
     after_load_refused who number EpochsSpent right is has asks clean =
@@ -104,35 +105,27 @@ module _ (k : Key) (b : Books) (keeping : Keeping) (kept : BooksAgree k b keepin
 module _ (k : Key) (b : Books) (keeping : Keeping) (kept : BooksAgree k b keeping) where
   -- the image and the policy in force follow themselves
   pub refresh_follows : (mark : ℕ)
-      → IsUpdate k.code_words (last_of keeping.entries) (entry_by b.policy b.book.image mark)
+      → IsUpdate k.code_words (last_of keeping.entries) (entry_by b.force.policy b.book.image mark)
   refresh_follows mark = inl (record { policy = kept.ledger.told.policy; image = kept.image_is })
 
-  pub refresh_made : (epoch : ℕ) (new : Books) (after : Keeping) → epoch ≡ epoch_after k keeping → b.epoch < MAX_EPOCH
-      → HasLine (asked_by Script (RefreshOk epoch)) b.journal new.journal
-      → new ≡ record b { journal = new.journal; epoch = epoch }
-      → after ≡ grown_by (entry_by b.policy b.book.image (mark_by Script Refresh)) after.quiets keeping
+  pub refresh_made : (new : Books) (after : Keeping) → b.force.epoch < MAX_EPOCH
+      → HasLine (asked_by Script (RefreshOk (b.force.epoch + 1))) b.force.journal new.force.journal
+      → new ≡ record b { force = with_refresh new.force.journal b.force }
+      → after ≡ grown_by (entry_by b.force.policy b.book.image (mark_by Script Refresh)) after.quiets keeping
       → MayAskFor (ledger_of b keeping) Script Refresh
-      → IsAfter k (asked_by Script (RefreshOk epoch)) b new keeping after
-  refresh_made epoch new after epoch_is left has same grown asks =
-      let next : b.epoch + 1 ≡ epoch = kept.ledger.told.epoch ∙ sym epoch_is in
-      let entries = last_of keeping.entries in
-      let grown_is : grown_by (entry_by entries.policy entries.image (mark_by Script Refresh)) after.quiets keeping ≡ after =
-      ap (λ (n : ℕ). grown_by (entry_by n entries.image (mark_by Script Refresh)) after.quiets keeping)
+      → IsAfter k (asked_by Script (RefreshOk new.force.epoch)) b new keeping after
+  refresh_made new after left has same grown asks =
+      let there : Books = record b { force = with_refresh new.force.journal b.force } in
+      let e = last_of keeping.entries in
+      let grown_is : grown_by (entry_by e.policy e.image (mark_by Script Refresh)) after.quiets keeping ≡ after =
+      ap (λ (n : ℕ). grown_by (entry_by n e.image (mark_by Script Refresh)) after.quiets keeping)
       (sym kept.ledger.told.policy)
-      ∙ ap (λ (i : Image). grown_by (entry_by b.policy i (mark_by Script Refresh)) after.quiets keeping) (sym kept.image_is)
+      ∙ ap (λ (i : Image). grown_by (entry_by b.force.policy i (mark_by Script Refresh)) after.quiets keeping)
+      (sym kept.image_is)
       ∙ sym grown in
-      let has_next : HasLine (asked_by Script (RefreshOk (b.epoch + 1))) b.journal new.journal =
-      subst (λ (e : ℕ). HasLine (asked_by Script (RefreshOk e)) b.journal new.journal) (sym next) has in
-      let all = after_refreshed k b new.journal keeping kept Script after.quiets has_next asks tt left in
-      let there : IsAfter k (asked_by Script (RefreshOk (b.epoch + 1))) b
-      (record b { journal = new.journal; epoch = b.epoch + 1 }) keeping after =
-      subst (IsAfter k (asked_by Script (RefreshOk (b.epoch + 1))) b
-      (record b { journal = new.journal; epoch = b.epoch + 1 }) keeping) grown_is all in
-      let with_epoch : IsAfter k (asked_by Script (RefreshOk epoch)) b
-      (record b { journal = new.journal; epoch = epoch }) keeping after =
-      subst (λ (e : ℕ). IsAfter k (asked_by Script (RefreshOk e)) b
-      (record b { journal = new.journal; epoch = e }) keeping after) next there in
-      subst (λ (nb : Books). IsAfter k (asked_by Script (RefreshOk epoch)) b nb keeping after) (sym same) with_epoch
+      subst (λ (nb : Books). IsAfter k (asked_by Script (RefreshOk nb.force.epoch)) b nb keeping after) (sym same)
+      (subst (IsAfter k (asked_by Script (RefreshOk (b.force.epoch + 1))) b there keeping) grown_is
+      (after_refreshed k b new.force.journal keeping kept Script after.quiets has asks tt left))
 
 -- ---- answers of the keeper
 

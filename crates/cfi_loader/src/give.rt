@@ -12,7 +12,7 @@ ghost use Rattle.cfi_ledger.specs.Opens.{IsAddressOf};
 
 use crate::loaded::Loaded;
 use crate::loader::{Loader, LoaderName};
-use cfi_ledger::{given_by, open_answer};
+use cfi_ledger::open_answer;
 use rv_guest::Guest;
 
 impl<N: LoaderName> Loader<N> {
@@ -30,8 +30,8 @@ impl<N: LoaderName> Loader<N> {
         ensures { guest.new ≡ serve_of guest.old
             (reply_with self.now guest.old.base.log loaded.now.address) }
     {
-        let given = self.books.starts + given_by(guest.log()) as usize;
-        let fills = self.books.roster.fills();
-        guest.answer(&open_answer(loaded.address, self.books.policy, fills, given));
+        let first = self.books.force.due_from(guest.log());
+        let fills = self.books.force.roster.fills();
+        guest.answer(&open_answer(loaded.address, self.books.force.policy, fills, first));
     }
 }

@@ -15,6 +15,7 @@ ghost use Rattle.cfi_loader.specs.Told.{MayAskFor};
 ghost use Rattle.cfi_loader.specs.inner.Books.{BooksAgree, ledger_of};
 ghost use Rattle.cfi_ledger.specs.Journal.{HasLine, HasRoomFor};
 ghost use Rattle.cfi_valid.specs.declared.limits.TheConstants.{MAX_LOADED};
+ghost use Rattle.cfi_ledger.specs.Books.{committed};
 ghost use Rattle.cfi_ledger.specs.Finding.{AreFindings};
 ghost use Rattle.cfi_ledger.specs.Loads.{IsAbsent};
 ghost use Rattle.cfi_ledger.specs.Opens.{IsFirstGlobal};
@@ -34,32 +35,29 @@ use cfi_tables::{Keeper, TableName, Tables};
 use cfi_word::limits::MAX_EPOCH;
 
 // Puts the module in force, with its line, and answers.
-fn commit(books: &mut Books, candidate: Candidate, who: Who, number: u32, epoch: u32) -> Loaded
-    requires room { HasRoomFor who books.old.journal }
-    requires few { books.old.policy < MAX_LOADED }
+fn commit(books: &mut Books, candidate: Candidate, who: Who, number: u32) -> Loaded
+    requires room { HasRoomFor who books.old.force.journal }
+    requires left { books.old.force.epoch < MAX_EPOCH }
+    requires few { books.old.force.policy < MAX_LOADED }
     requires some { 0 < length candidate.roster.placed }
-    ensures line { HasLine (asked_by who (LoadOk number epoch (books.old.policy + 1)))
-        books.old.journal books.new.journal }
-    ensures same { books.new ≡ record books.old {
-      journal = books.new.journal;
-      roster = candidate.roster;
-      book = candidate.book;
-      epoch = epoch;
-      policy = books.old.policy + 1;
-    } }
+    ensures line { HasLine
+        (asked_by who (LoadOk number (books.old.force.epoch + 1) (books.old.force.policy + 1)))
+        books.old.force.journal books.new.force.journal }
+    ensures same { books.new
+        ≡ committed candidate.roster candidate.book books.new.force.journal books.old }
     ensures again { result.again ≡ false }
-    ensures epoch { result.epoch ≡ epoch }
-    ensures policy { result.policy ≡ books.old.policy + 1 }
+    ensures epoch { result.epoch ≡ books.new.force.epoch }
+    ensures policy { result.policy ≡ books.new.force.policy }
     ensures address { (d : Placed) → IsFirstGlobal
         (slice_index_or candidate.roster.placed (length candidate.roster.placed - 1) d)
         result.address }
 {
-    books.commit(candidate, who, number, epoch);
-    let last = books.roster.modules().len() - 1;
+    books.commit(candidate, who, number);
+    let last = books.force.roster.modules().len() - 1;
     Loaded {
         again: false,
-        epoch,
-        policy: books.policy,
+        epoch: books.force.epoch,
+        policy: books.force.policy,
         address: books.address_at(last),
     }
 }
@@ -68,9 +66,9 @@ fn commit(books: &mut Books, candidate: Candidate, who: Who, number: u32, epoch:
 fn refuse_last(books: &mut Books, who: Who, number: u32) -> LoadFault
     requires can { CanStart books.old.plan books.old.modules }
     requires known { number < length books.old.plan.modules }
-    requires room { HasRoomFor who books.old.journal }
-    requires found { AreFindings books.old.modules books.old.roster books.old.found.items }
-    requires last { books.old.epoch ≡ MAX_EPOCH }
+    requires room { HasRoomFor who books.old.force.journal }
+    requires found { AreFindings books.old.modules books.old.force.roster books.old.found.items }
+    requires last { books.old.force.epoch ≡ MAX_EPOCH }
     ensures after { (k : Key) (keeping : Keeping) → BooksAgree k books.old keeping →
         MayAskFor (ledger_of books.old keeping) who (Load number) → IsAbsent books.old number →
         Refuses k who number result books.old books.new keeping keeping }
@@ -94,7 +92,7 @@ fn attempt<N: TableName>(
     requires known { number < length books.old.plan.modules }
     requires kept { BooksAgree N.key books.old keeper.old }
     requires asks { MayAskFor (ledger_of books.old keeper.old) who (Load number) }
-    requires room { HasRoomFor who books.old.journal }
+    requires room { HasRoomFor who books.old.force.journal }
     requires absent { IsAbsent books.old number }
     ensures ok { IfOk result (λ loaded.
         LoadsTo N.key who number loaded books.old books.new keeper.old keeper.new) }
@@ -110,8 +108,8 @@ fn attempt<N: TableName>(
         Err(fault) => return Err(refuse_unjoined(books, who, number, fault)),
     };
     let mark = load_mark(who, number);
-    match keeper.update(tables, candidate.image(), books.policy + 1, mark) {
-        Ok(epoch) => Ok(commit(books, candidate, who, number, epoch)),
+    match keeper.update(tables, candidate.image(), books.force.policy + 1, mark) {
+        Ok(_) => Ok(commit(books, candidate, who, number)),
         Err(fault) => {
             let fault = turn_down(books, candidate, who, number, fault);
             books.keep_joining(number);
@@ -131,7 +129,7 @@ fn add<N: TableName>(
     requires known { number < length books.old.plan.modules }
     requires kept { BooksAgree N.key books.old keeper.old }
     requires asks { MayAskFor (ledger_of books.old keeper.old) who (Load number) }
-    requires room { HasRoomFor who books.old.journal }
+    requires room { HasRoomFor who books.old.force.journal }
     requires absent { IsAbsent books.old number }
     ensures ok { IfOk result (λ loaded.
         LoadsTo N.key who number loaded books.old books.new keeper.old keeper.new) }
@@ -143,7 +141,7 @@ fn add<N: TableName>(
     ensures same { IsSamePlan books.old books.new }
 {
     match books.known(number) {
-        Known::Nothing if books.epoch == MAX_EPOCH => Err(refuse_last(books, who, number)),
+        Known::Nothing if books.force.epoch == MAX_EPOCH => Err(refuse_last(books, who, number)),
         Known::Nothing => attempt(keeper, books, tables, number, who),
         Known::Unjoined(fault) => Err(refuse(books, who, number, fault)),
         Known::Spent => Err(refuse_spent(books, who, number)),
@@ -174,7 +172,7 @@ fn load<N: TableName>(
     if !books.reserve(who) {
         return Err(LoadFault::Memory);
     }
-    match books.roster.prospect(number) {
+    match books.force.roster.prospect(number) {
         Prospect::Again(at) => Ok(again(books, who, number, at)),
         Prospect::Full => {
             books.tell(who, JournalLine::LoadFull { module: number });
@@ -228,10 +226,10 @@ impl<N: LoaderName> Loader<N> {
             IsLoadFault N.key (Guest slip.old.guest) number fault self.old self.new) }
         ensures told { slip.new ≡ with_lines (told_lines number result) slip.old }
     {
-        let before = self.books.journal.lines().len();
+        let before = self.books.force.journal.lines().len();
         let who = Who::Guest(slip.guest());
         let answer = load(&mut self.keeper, &mut self.books, tables, number, who);
-        let told = &self.books.journal.lines()[before..];
+        let told = &self.books.force.journal.lines()[before..];
         self.stubs.tell(slip, told);
         answer
     }

@@ -25,7 +25,7 @@ impl<N: LoaderName> Loader<N> {
         ensures value { result.now ≡ self.now.course.journal }
         ensures law { IsLedger N.key N.plan N.modules self.now }
     {
-        self.books.journal.lines()
+        self.books.force.journal.lines()
     }
 
     /// The epoch and the policy in force.
@@ -34,8 +34,8 @@ impl<N: LoaderName> Loader<N> {
         ensures policy { result.policy ≡ self.now.course.end.policy }
     {
         Seen {
-            epoch: self.books.epoch,
-            policy: self.books.policy,
+            epoch: self.books.force.epoch,
+            policy: self.books.force.policy,
         }
     }
 
@@ -53,14 +53,14 @@ impl<N: LoaderName> Loader<N> {
     pub fn modules(&self) -> &[ModuleLine]
         ensures { result.now ≡ map (module_line_of N.plan.modules) self.now.course.end.loaded }
     {
-        self.books.roster.lines()
+        self.books.force.roster.lines()
     }
 
     /// The data of the loaded modules, in load order.
     pub fn fills(&self) -> &[Fill]
         ensures { result.now ≡ fills_of (placed_modules self.now.course.end.loaded) }
     {
-        self.books.roster.fills()
+        self.books.force.roster.fills()
     }
 
     /// Whether memory was missing for a load.
@@ -79,7 +79,7 @@ impl<N: LoaderName> Loader<N> {
             (made_by_script self.now.course.journal ≡ script_calls N.plan.script) }
         ensures law { IsLedger N.key N.plan N.modules self.now }
     {
-        self.books.journal.due()
+        self.books.force.journal.due()
     }
 
     /// Where a guest of this entry begins: at the Global function of this name in the first start module that has one,
@@ -91,7 +91,7 @@ impl<N: LoaderName> Loader<N> {
             result ≡ Some address }
     {
         loaded_have_entries();
-        let starts = &self.books.roster.modules()[..self.books.starts];
+        let starts = &self.books.force.roster.modules()[..self.books.force.starts()];
         entry_at(&self.books.plan, starts, name)
     }
 

@@ -46,11 +46,10 @@ fn refresh<N: TableName>(
         keeper.old keeper.new) }
     ensures same { (books.new.plan ≡ books.old.plan) × (books.new.modules ≡ books.old.modules) }
 {
-    match keeper.update(tables, books.book.image(), books.policy, REFRESH_MARK) {
-        Ok(epoch) => {
-            books.epoch = epoch;
-            books.tell(Who::Script, JournalLine::RefreshOk { epoch });
-            Ok(epoch)
+    match keeper.update(tables, books.book.image(), books.force.policy, REFRESH_MARK) {
+        Ok(_) => {
+            books.force.put_refresh(Who::Script);
+            Ok(books.force.epoch)
         }
         Err(fault) => {
             books.tell(Who::Script, refused_refresh(fault));

@@ -1,6 +1,7 @@
 //! What the journal is told of a load that puts nothing in force.
 
 ghost use Rattle.std.specs.Prelude.{◌≡◌, true};
+ghost use Rattle.cfi_ledger.specs.Books.{with_journal, with_roster};
 ghost use Rattle.cfi_ledger.specs.Finding.{AreFindings};
 ghost use Rattle.cfi_ledger.specs.Journal.{HasLine, HasRoomFor, asked_by};
 ghost use Rattle.cfi_ledger.specs.Loads.{IsAbsent, IsListed, IsSpent, IsUnprepared};
@@ -21,15 +22,15 @@ use cfi_tables::UpdateFault;
 
 /// The answer where the module stands at this place in load order.
 pub(crate) fn again(books: &mut Books, who: Who, number: u32, at: usize) -> Loaded
-    requires room { HasRoomFor who books.old.journal }
-    requires listed { IsListed books.old.roster number at }
+    requires room { HasRoomFor who books.old.force.journal }
+    requires listed { IsListed books.old.force.roster number at }
     ensures after { (k : Key) (keeping : Keeping) → BooksAgree k books.old keeping →
         MayAskFor (ledger_of books.old keeping) who (Load number) →
         LoadsTo k who number result books.old books.new keeping keeping }
     ensures same { IsSamePlan books.old books.new }
     ensures again { result.again ≡ true }
 {
-    let policy = books.policy;
+    let policy = books.force.policy;
     books.tell(
         who,
         JournalLine::LoadAgain {
@@ -39,7 +40,7 @@ pub(crate) fn again(books: &mut Books, who: Who, number: u32, at: usize) -> Load
     );
     Loaded {
         again: true,
-        epoch: books.epoch,
+        epoch: books.force.epoch,
         policy,
         address: books.address_at(at),
     }
@@ -47,7 +48,7 @@ pub(crate) fn again(books: &mut Books, who: Who, number: u32, at: usize) -> Load
 
 /// Tells why the module does not join.
 pub(crate) fn refuse(books: &mut Books, who: Who, number: u32, fault: JoinFault) -> LoadFault
-    requires room { HasRoomFor who books.old.journal }
+    requires room { HasRoomFor who books.old.force.journal }
     requires unprepared { IsUnprepared books.old number fault }
     ensures after { (k : Key) (keeping : Keeping) → BooksAgree k books.old keeping →
         MayAskFor (ledger_of books.old keeping) who (Load number) → IsAbsent books.old number →
@@ -69,23 +70,21 @@ pub(crate) fn turn_down(
     number: u32,
     fault: UpdateFault,
 ) -> LoadFault
-    requires room { HasRoomFor who books.old.journal }
+    requires room { HasRoomFor who books.old.force.journal }
     ensures line { HasLine (asked_by who (update_line number fault))
-        books.old.journal books.new.journal }
-    ensures same { books.new ≡ record books.old {
-      journal = books.new.journal;
-      roster = candidate.before;
-    } }
+        books.old.force.journal books.new.force.journal }
+    ensures same { books.new
+        ≡ with_roster candidate.before (with_journal books.new.force.journal books.old) }
     ensures fault { result ≡ load_fault_by fault }
 {
-    books.roster = candidate.discard();
+    books.force.roster = candidate.discard();
     books.tell(who, update_line(number, fault));
     load_fault_by(fault)
 }
 
 /// Tells that no epoch is left for a module that joins.
 pub(crate) fn refuse_spent(books: &mut Books, who: Who, number: u32) -> LoadFault
-    requires room { HasRoomFor who books.old.journal }
+    requires room { HasRoomFor who books.old.force.journal }
     requires spent { IsSpent books.old number }
     ensures after { (k : Key) (keeping : Keeping) → BooksAgree k books.old keeping →
         MayAskFor (ledger_of books.old keeping) who (Load number) → IsAbsent books.old number →
@@ -103,8 +102,8 @@ pub(crate) fn refuse_unjoined(
     number: u32,
     fault: JoinFault,
 ) -> LoadFault
-    requires room { HasRoomFor who books.old.journal }
-    requires found { AreFindings books.old.modules books.old.roster books.old.found.items }
+    requires room { HasRoomFor who books.old.force.journal }
+    requires found { AreFindings books.old.modules books.old.force.roster books.old.found.items }
     requires unprepared { IsUnprepared books.old number fault }
     ensures after { (k : Key) (keeping : Keeping) → BooksAgree k books.old keeping →
         MayAskFor (ledger_of books.old keeping) who (Load number) → IsAbsent books.old number →

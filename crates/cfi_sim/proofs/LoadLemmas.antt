@@ -157,19 +157,23 @@ module _ (x : Whole) (under : IsUnderWay x) (within : PassesNoLimit x.stage) (nu
 
 -- the series is that of the loaded modules
 pub series_is : (a : Inside) → RosterFits a
-    → series_of a.roster ≡ record {
+    → series_of a.force.roster ≡ record {
       code_words = a.plan.now.code_words;
-      placed = placed_modules (loaded_of a.roster.lines a.roster.placed);
+      placed = placed_modules (loaded_of a.force.roster.lines a.force.roster.placed);
     }
 series_is a kept =
-    let placed = places_are origin_of a.roster.lines a.roster.placed kept.many in
-    ap (λ (n : ℕ). record { code_words = n; placed = a.roster.placed }) kept.size
+    let placed = places_are origin_of a.force.roster.lines a.force.roster.placed kept.roster_is.many in
+    ap (λ (n : ℕ). record { code_words = n; placed = a.force.roster.placed }) kept.roster_is.code_words_are
     ∙ ap (λ (ps : List Placed). record { code_words = a.plan.now.code_words; placed = ps }) (sym placed)
 
 module _ (a : Inside) (kept : RosterFits a) (x : Whole) (is : whole_inside a ≡ x) (under : IsUnderWay x)
     (within : PassesNoLimit x.stage) (number : ℕ) (known : number < length x.plan.modules) where
   abbrev here : Whole
   here = whole_inside a
+
+  -- with other loaded modules
+  abbrev at_roster : Roster → Whole
+  at_roster r = whole_inside (record a { force = record a.force { roster = r } })
 
   under_here : IsUnderWay here
   under_here = subst IsUnderWay (sym is) under
@@ -187,38 +191,39 @@ module _ (a : Inside) (kept : RosterFits a) (x : Whole) (is : whole_inside a ≡
   back y has = subst (λ (w : Whole). HasMadeWithin (IsLoadEvent w.plan w.modules number) w y) is has
 
   -- it is loaded
-  pub again_load : (at : ℕ) → IsListed a.roster number at → (y : Whole)
-      → y ≡ with_told (lines.LoadAgain number a.policy) here → HasMadeWithin (IsLoadEvent x.plan x.modules number) x y
+  pub again_load : (at : ℕ) → IsListed a.force.roster number at → (y : Whole)
+      → y ≡ with_told (lines.LoadAgain number a.force.policy) here
+      → HasMadeWithin (IsLoadEvent x.plan x.modules number) x y
   again_load at listed y y_is =
-      let one = item_at a.roster.placed at listed.within in
-      back y (told_load here under_here within_here number (lines.LoadAgain number a.policy) refl (
-        record { loaded = listed_loaded a.roster kept.many number at listed one.0; force = refl },
+      let one = item_at a.force.roster.placed at listed.within in
+      back y (told_load here under_here within_here number (lines.LoadAgain number a.force.policy) refl (
+        record { loaded = listed_loaded a.force.roster kept.roster_is.many number at listed one.0; force = refl },
         refl,
       ) y y_is)
 
-  pub absent_load : IsUnlisted a.roster number → IsLoaded x.stage.state.loaded number → ⊥
+  pub absent_load : IsUnlisted a.force.roster number → IsLoaded x.stage.state.loaded number → ⊥
   absent_load none =
       subst (λ (w : Whole). IsLoaded w.stage.state.loaded number → ⊥) is
-      (unlisted_absent a.roster kept.many number none)
+      (unlisted_absent a.force.roster kept.roster_is.many number none)
 
   -- no further one may be
-  pub full_load : IsUnlisted a.roster number → MAX_LOADED ≤ length a.roster.lines → (y : Whole)
+  pub full_load : IsUnlisted a.force.roster number → MAX_LOADED ≤ length a.force.roster.lines → (y : Whole)
       → y ≡ with_told (lines.LoadFull number) here → HasMadeWithin (IsLoadEvent x.plan x.modules number) x y
   full_load none full y y_is =
-      let many = many_are origin_of a.roster.lines a.roster.placed kept.many in
+      let many = many_are origin_of a.force.roster.lines a.force.roster.placed kept.roster_is.many in
       back y (told_load here under_here within_here number (lines.LoadFull number) refl (
         record {
           known = known_here;
-          absent = unlisted_absent a.roster kept.many number none;
-          full = omega (arith, many, kept.many, full);
+          absent = unlisted_absent a.force.roster kept.roster_is.many number none;
+          full = omega (arith, many, kept.roster_is.many, full);
         },
         refl,
       ) y y_is)
 
-  pub room_load : length a.roster.lines < MAX_LOADED → length x.stage.state.loaded < MAX_LOADED
+  pub room_load : length a.force.roster.lines < MAX_LOADED → length x.stage.state.loaded < MAX_LOADED
   room_load few =
-      let many = many_are origin_of a.roster.lines a.roster.placed kept.many in
-      subst (λ (w : Whole). length w.stage.state.loaded < MAX_LOADED) is (omega (arith, many, kept.many, few))
+      let many = many_are origin_of a.force.roster.lines a.force.roster.placed kept.roster_is.many in
+      subst (λ (w : Whole). length w.stage.state.loaded < MAX_LOADED) is (omega (arith, many, kept.roster_is.many, few))
 
   -- one that is not loaded
   module _ (absent : IsLoaded x.stage.state.loaded number → ⊥) (room : length x.stage.state.loaded < MAX_LOADED)
@@ -233,10 +238,10 @@ module _ (a : Inside) (kept : RosterFits a) (x : Whole) (is : whole_inside a ≡
 
     -- it is offered, with the image of all
     module _ (offer : Offer)
-        (its : IsOffer number (planned_name a.plan.now.modules number) (a.policy + 1) m a.roster offer)
-        (image : Image) (of : IsImageOfRoster (with_offer offer a.roster) image)
-        (ordered : IsOrderedImage (with_offer offer a.roster).placed image) where
-      abbrev with : IsImageWith (series_of a.roster) m image
+        (its : IsOffer number (planned_name a.plan.now.modules number) (a.force.policy + 1) m a.force.roster offer)
+        (image : Image) (of : IsImageOfRoster (with_offer offer a.force.roster) image)
+        (ordered : IsOrderedImage (with_offer offer a.force.roster).placed image) where
+      abbrev with : IsImageWith (series_of a.force.roster) m image
       with = record { placed = offer.placed; joins = its.joins; is = of; ordered = ordered }
 
       with_here : IsImageWith (record {
@@ -253,8 +258,8 @@ module _ (a : Inside) (kept : RosterFits a) (x : Whole) (is : whole_inside a ≡
 
       offered : PendingFits here (Load offer)
       offered =
-          subst (λ (n : ℕ). IsOffered here.plan here.modules here.stage.state.loaded a.policy n offer) (sym number_is)
-          (record {
+          subst (λ (n : ℕ). IsOffered here.plan here.modules here.stage.state.loaded a.force.policy n offer)
+          (sym number_is) (record {
             unplaced = m;
             is = unloaded.is;
             sound = subst IsSoundModule (sym m_is) (all_sound a.modules.now under_here.taken number m known_here);
@@ -262,13 +267,13 @@ module _ (a : Inside) (kept : RosterFits a) (x : Whole) (is : whole_inside a ≡
             line_is = its.line_is;
           })
 
-      pub offer_fits : (r : Roster) → r ≡ a.roster → PendingFits (whole_inside (record a { roster = r })) (Load offer)
+      pub offer_fits : (r : Roster) → r ≡ a.force.roster → PendingFits (at_roster r) (Load offer)
       offer_fits r same =
-          subst (λ (t : Roster). PendingFits (whole_inside (record a { roster = t })) (Load offer)) (sym same) offered
+          subst (λ (t : Roster). PendingFits (at_roster t) (Load offer)) (sym same) offered
 
-      pub begun_load : (r : Roster) → r ≡ a.roster → (y : Whole) (happened : Bool)
+      pub begun_load : (r : Roster) → r ≡ a.force.roster → (y : Whole) (happened : Bool)
           → BeginsBy (aim_by (Load offer)) (lines.LoadEpochs number) (Some image)
-          (whole_inside (record a { roster = r })) y happened
+          (at_roster r) y happened
           → MakesBy (IsLoadEvent x.plan x.modules number) x y happened
       begun_load r same y happened begins =
           subst (λ (w : Whole). MakesBy (IsLoadEvent w.plan w.modules number) w y happened) is
@@ -276,16 +281,16 @@ module _ (a : Inside) (kept : RosterFits a) (x : Whole) (is : whole_inside a ≡
           (subst (λ (n : ℕ). BeginsBy (Loading n) (lines.LoadEpochs number) (Some image) here y happened) number_is
           (subst
           (λ (t : Roster). BeginsBy (aim_by (Load offer)) (lines.LoadEpochs number) (Some image)
-          (whole_inside (record a { roster = t })) y happened) same begins)))
+          (at_roster t) y happened) same begins)))
 
-    pub refused_load : (fault : JoinFault) → IsJoinFault a.roster.code_words a.roster.placed m fault
+    pub refused_load : (fault : JoinFault) → IsJoinFault a.force.roster.code_words a.force.roster.placed m fault
         → (line : JournalLine) → Some line ≡ option_map (numbered_line number) (numbers_of fault) → (r : Roster)
-        → r ≡ a.roster → (y : Whole) → y ≡ with_told line (whole_inside (record a { roster = r }))
+        → r ≡ a.force.roster → (y : Whole) → y ≡ with_told line (at_roster r)
         → HasMadeWithin (IsLoadEvent x.plan x.modules number) x y
     refused_load fault why line line_is r same y y_is =
         let told = from_numbers number (numbers_of fault) line (sym line_is) in
         back y (fault_load here under_here within_here number unloaded fault told.0
         (subst (λ (t : Series). IsJoinFault t.code_words t.placed m fault) (series_is a kept) why) told.1 y
         (y_is
-        ∙ ap (λ (t : Roster). with_told line (whole_inside (record a { roster = t }))) same
+        ∙ ap (λ (t : Roster). with_told line (at_roster t)) same
         ∙ ap (λ (l : JournalLine). with_told l here) told.2))

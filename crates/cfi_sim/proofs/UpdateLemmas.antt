@@ -1,12 +1,14 @@
 -- Accesses of the updater, as a simulation under way makes them.
-use Rattle.std.proofs.Common.{◌≡◌, ℕ, ◌+◌, ◌<◌, ◌++◌, false, List, [], ◌∷◌, length, map, Option, Some, None, refl, sym, ◌∙◌, ap, subst, arith}
+use Rattle.std.proofs.Common.{◌≡◌, ℕ, ◌+◌, ◌<◌, ◌++◌, false, List, [], ◌∷◌, Option, Some, None, refl, sym, ◌∙◌, ap, subst, arith}
 use Rattle.std.specs.Prelude.{IfSome}
 use Rattle.cfi_aux.specs.declared.modules.Module.{Module}
 use Rattle.cfi_model.specs.declared.phase.Phase.{Phase}
 use Rattle.cfi_model.specs.declared.phase.Phase.TheVariants as phases
 use Rattle.cfi_model.specs.Phases.{phase_of}
 use Rattle.cfi_model.specs.World.{World}
+use Rattle.cfi_plan.specs.declared.journal.Entry.{Entry}
 use Rattle.cfi_plan.specs.declared.journal.JournalLine.TheVariants as lines
+use Rattle.cfi_plan.specs.declared.journal.Who.TheVariants.{Script}
 use Rattle.cfi_plan.specs.declared.journal.ModuleLine.{ModuleLine}
 use Rattle.cfi_modules.specs.Order.{Joins}
 use Rattle.cfi_modules.specs.Series.{CanRejoin, Series}
@@ -19,16 +21,19 @@ use Rattle.cfi_sim.specs.Events.{IsNoted, IsUpdateEvent}
 use Rattle.cfi_sim.specs.Reach.{OfUpdate}
 use Rattle.cfi_sim.specs.Stage.{Stage, IsMade, after_event, loaded_as}
 use Rattle.cfi_sim.specs.Stands.{AimFits, LoadFits}
-use Rattle.cfi_ledger.proofs.JoinedLemmas.{joined_lines, joined_loaded, joined_many}
-use Rattle.cfi_ledger.specs.Roster.{HasJoined, Offer, Roster, loaded_of, series_of, with_offer}
-use Rattle.cfi_sim.specs.inner.Making.{FitsAim, HasCome, HasMadeWithin, NotesBy, with_dropped, with_entered, with_told}
+use Rattle.cfi_ledger.specs.declared.force.Force.{Force}
+use Rattle.cfi_ledger.specs.Force.{with_load}
+use Rattle.cfi_ledger.specs.Journal.{asked_by}
+use Rattle.cfi_ledger.proofs.JoinedLemmas.{joined_loaded, joined_roster}
+use Rattle.cfi_ledger.specs.Roster.{HasJoined, IsRosterOf, Offer, Roster, loaded_of, series_of, with_offer}
+use Rattle.cfi_sim.specs.inner.Making.{FitsAim, HasCome, HasMadeWithin, NotesBy, with_dropped, with_entered}
 use Rattle.cfi_sim.specs.inner.Pending.{aim_by, aim_of}
 use Rattle.cfi_sim.specs.inner.Standing.{Whole, RosterFits, IsUnderWay, PendingFits, whole_inside}
 use Rattle.cfi_sim.proofs.BeginLemmas.{under_after, updates_few, done_so}
 use Rattle.cfi_sim.proofs.journal.NotedLemmas.{not_spent, busy, update_counts}
 use Rattle.cfi_sim.proofs.LoadLemmas.{series_is}
 use Rattle.cfi_valid.specs.Journal.{IsClean}
-use Rattle.cfi_valid.specs.Loaded.{LoadedModule, module_line_of, placed_modules, planned_name}
+use Rattle.cfi_valid.specs.Loaded.{LoadedModule, placed_modules, planned_name}
 use Rattle.cfi_world.specs.declared.event.Event.TheVariants as events
 use Rattle.cfi_world.specs.declared.event.Turned.{Turned}
 use Rattle.cfi_world.specs.declared.event.Turned.TheVariants.{VersionsSpent}
@@ -43,66 +48,65 @@ module _ (a : Inside) (kept : RosterFits a) (x : Whole) (is : whole_inside a ≡
   its = subst (λ (w : Whole). PendingFits w (Load offer)) (sym is) offered
 
   -- it joins the roster
-  joins_here : Joins a.roster.code_words a.roster.placed its.unplaced offer.placed
+  joins_here : Joins a.force.roster.code_words a.force.roster.placed its.unplaced offer.placed
   joins_here =
       subst (λ (s : Series). Joins s.code_words s.placed its.unplaced offer.placed) (sym (series_is a kept)) its.joins
 
-  pub rejoins : CanRejoin (series_of a.roster) offer.placed
+  pub rejoins : CanRejoin (series_of a.force.roster) offer.placed
   rejoins = (its.unplaced, its.sound, joins_here)
 
   abbrev entered : LoadedModule
-  entered = record { number = offer.line.number; placed = offer.placed; policy = a.policy + 1 }
+  entered = record { number = offer.line.number; placed = offer.placed; policy = a.force.policy + 1 }
 
   abbrev name : List ℕ
   name = planned_name a.plan.now.modules offer.line.number
 
-  module _ (r : Roster) (same : r ≡ with_offer offer a.roster) where
+  module _ (r : Roster) (same : r ≡ with_offer offer a.force.roster) where
     -- with it, it is loaded
-    abbrev joined : HasJoined offer.line.number name (a.policy + 1) its.unplaced a.roster r
+    abbrev joined : HasJoined offer.line.number name (a.force.policy + 1) its.unplaced a.force.roster r
     joined = record {
       one = offer.placed;
       joins = joins_here;
       is = same
-          ∙ ap (λ (l : ModuleLine). with_offer (record { line = l; placed = offer.placed }) a.roster) its.line_is;
+          ∙ ap (λ (l : ModuleLine). with_offer (record { line = l; placed = offer.placed }) a.force.roster) its.line_is;
     }
 
-    loaded_with : loaded_of r.lines r.placed ≡ loaded_of a.roster.lines a.roster.placed ++ entered ∷ []
+    loaded_with : loaded_of r.lines r.placed ≡ loaded_of a.force.roster.lines a.force.roster.placed ++ entered ∷ []
     loaded_with =
-        joined_loaded offer.line.number name (a.policy + 1) its.unplaced a.roster r joined kept.many
+        joined_loaded offer.line.number name (a.force.policy + 1) its.unplaced a.force.roster r joined
+        kept.roster_is.many
 
-    pub entered_many : length r.lines ≡ length r.placed
-    entered_many = joined_many offer.line.number name (a.policy + 1) its.unplaced a.roster r joined kept.many
+    pub entered_roster : IsRosterOf a.plan.now r
+    entered_roster =
+        joined_roster offer.line.number name (a.force.policy + 1) its.unplaced a.force.roster r joined a.plan.now
+        kept.roster_is refl
 
-    pub entered_size : r.code_words ≡ a.plan.now.code_words
-    entered_size = ap (λ (t : Roster). t.code_words) same ∙ kept.size
-
-    -- the lines are those of the modules
-    pub entered_lines : r.lines ≡ map (module_line_of a.plan.now.modules) (loaded_of r.lines r.placed)
-    entered_lines =
-        joined_lines offer.line.number name (a.policy + 1) its.unplaced a.roster r joined kept.many
-        a.plan.now.modules kept.lines refl
-
-    abbrev told_with : (number : ℕ) → Option Aim → List LoadedModule → Whole
-    told_with number aim loaded =
+    abbrev entered_with : List Entry → Option Aim → List LoadedModule → Whole
+    entered_with journal aim loaded =
         let here = whole_inside a in
-        with_told (lines.LoadOk number (a.epoch + 1) (a.policy + 1))
-        (record here {
+        record here {
           stage = record here.stage {
-            state = record { epoch = a.epoch + 1; policy = a.policy + 1; loaded = loaded };
+            journal = journal;
+            state = record { epoch = a.force.epoch + 1; policy = a.force.policy + 1; loaded = loaded };
             aim = aim;
           };
-        })
+        }
+
+    abbrev lines_with : (number : ℕ) → List Entry
+    lines_with number =
+        a.force.journal.lines ++ asked_by Script (lines.LoadOk number (a.force.epoch + 1) (a.force.policy + 1)) ∷ []
 
     -- and the state is the next one
-    pub has_entered : x.stage.aim ≡ None → (number : ℕ) → number ≡ offer.line.number → (y : Whole)
-        → y ≡ told_with number (aim_of a.pending) (loaded_of r.lines r.placed) → y ≡ with_entered offer x
-    has_entered none number number_is y y_is =
+    pub has_entered : x.stage.aim ≡ None → (number : ℕ) → number ≡ offer.line.number → (f : Force)
+        → f ≡ with_load r f.journal a.force → f.journal.lines ≡ lines_with number
+        → whole_inside (record a { force = f }) ≡ with_entered offer x
+    has_entered none number number_is f f_is lines_are =
         let loaded = loaded_of r.lines r.placed in
         let aim_is = subst (λ (w : Whole). w.stage.aim ≡ None) (sym is) none in
-        y_is
-        ∙ ap (λ (n : ℕ). told_with n (aim_of a.pending) loaded) number_is
-        ∙ ap (λ (o : Option Aim). told_with offer.line.number o loaded) aim_is
-        ∙ ap (told_with offer.line.number None) loaded_with
+        ap (λ (g : Force). whole_inside (record a { force = g })) f_is
+        ∙ ap (λ (es : List Entry). entered_with es (aim_of a.pending) loaded) (lines_are ∙ ap lines_with number_is)
+        ∙ ap (λ (o : Option Aim). entered_with (lines_with offer.line.number) o loaded) aim_is
+        ∙ ap (entered_with (lines_with offer.line.number) None) loaded_with
         ∙ ap (with_entered offer) is
 
 -- ---- what was under way is in force

@@ -1,7 +1,6 @@
 -- What a loader has beside the keeper of the tables, and how both agree.
 use Rattle.std.specs.Prelude.{◌≡◌, ℕ, List}
 use Rattle.cfi_aux.specs.declared.modules.Module.{Module}
-use Rattle.cfi_plan.specs.Draft.{starts}
 use Rattle.cfi_plan.specs.declared.journal.Entry.{Entry}
 use Rattle.cfi_plan.specs.declared.plan.Plan.{Plan}
 use Rattle.cfi_slips.specs.Lines.{lines_of}
@@ -12,27 +11,26 @@ use Rattle.cfi_ledger.specs.declared.books.Books.{Books}
 use Rattle.cfi_loader.specs.Ledger.{Ledger, IsLedger}
 use Rattle.cfi_loader.specs.Told.{HasTold}
 use Rattle.cfi_ledger.specs.Finding.{AreFindings}
-use Rattle.cfi_ledger.specs.Books.{course_in, IsRosterOf}
-use Rattle.cfi_ledger.specs.Roster.{IsBookOfRoster}
+use Rattle.cfi_ledger.specs.Books.{course_in}
+use Rattle.cfi_ledger.specs.Roster.{IsBookOfRoster, IsRosterOf}
 
 -- what a loader keeps, as clauses see it
 abbrev pub ledger_of : Books → Keeping → Ledger
 ledger_of b keeping = record {
   course = course_in b;
   keeping = keeping;
-  left = b.journal.left;
+  left = b.force.journal.left;
   starved = b.starved;
 }
 
 -- all of it agrees
 pub record BooksAgree (k : Key) (b : Books) (keeping : Keeping) : Type 0 where
   pub ledger : IsLedger k b.plan b.modules (ledger_of b keeping)
-  pub roster_is : IsRosterOf b
+  pub roster_is : IsRosterOf b.plan b.force.roster
   pub layout_is : b.layout ≡ b.plan.code_words
-  pub book_is : IsBookOfRoster b.roster b.book
+  pub book_is : IsBookOfRoster b.force.roster b.book
   pub image_is : b.book.image ≡ (last_of keeping.entries).image
-  pub starts_are : b.starts ≡ starts b.plan.modules
-  pub found_are : AreFindings b.modules b.roster b.found.items
+  pub found_are : AreFindings b.modules b.force.roster b.found.items
 
 -- a line more, and all of it agrees again
 pub record IsAfter (k : Key) (entry : Entry) (old new : Books) (before after : Keeping) : Type 0 where

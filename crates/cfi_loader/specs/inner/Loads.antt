@@ -48,8 +48,8 @@ pub record IsSamePlan (old new : Books) : Type 0 where
 pub record LoadsTo (k : Key) (who : Who) (number : ℕ) (answer : Loaded) (old new : Books) (before after : Keeping)
     : Type 0 where
   pub all : IsAfter k (asked_by who (loaded_line number answer)) old new before after
-  pub epoch_is : answer.epoch ≡ new.epoch
-  pub policy_is : answer.policy ≡ new.policy
+  pub epoch_is : answer.epoch ≡ new.force.epoch
+  pub policy_is : answer.policy ≡ new.force.policy
   pub address_is : IsAddressOf (loaded_in new) number answer.address
 
 -- one that was refused

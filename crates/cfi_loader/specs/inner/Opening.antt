@@ -12,4 +12,4 @@ started_of a = record { named = a.blank; slips = a.pad; ledger = ledger_of a.boo
 -- they agree, and nothing was told yet
 pub record IsReadyStart (a : Inside) : Type 0 where
   pub kept : BooksAgree a.blank.key a.books (opened_keeping a.blank.key)
-  pub untold : a.books.journal.lines ≡ []
+  pub untold : a.books.force.journal.lines ≡ []

@@ -1,5 +1,5 @@
 -- A simulation under way, as it is kept.
-use Rattle.std.specs.Prelude.{◌≡◌, ℕ, ◌+◌, Bool, true, false, List, [], length, map, slice_get, Some, None, All, IfSome, ⊤}
+use Rattle.std.specs.Prelude.{◌≡◌, ℕ, ◌+◌, Bool, true, false, List, [], length, slice_get, Some, None, All, IfSome, ⊤}
 use Rattle.cfi_aux.specs.Sound.{IsSoundModule}
 use Rattle.cfi_aux.specs.declared.modules.Module.{Module}
 use Rattle.cfi_model.specs.Raw.{Raw}
@@ -11,7 +11,8 @@ use Rattle.cfi_modules.specs.Series.{CanBeTaken}
 use Rattle.cfi_sim.specs.Events.{IsAnswered, IsGuestEvent, IsReleaseEvent}
 use Rattle.cfi_sim.specs.Stage.{Stage}
 use Rattle.cfi_sim.specs.Stands.{IsGoing}
-use Rattle.cfi_ledger.specs.Roster.{Offer, Roster, loaded_of}
+use Rattle.cfi_ledger.specs.Force.{state_of}
+use Rattle.cfi_ledger.specs.Roster.{Offer, Roster, IsRosterOf, loaded_in_roster}
 use Rattle.cfi_sim.specs.declared.pending.Pending.{Pending}
 use Rattle.cfi_sim.specs.declared.pending.Pending.TheVariants.{Load, Refresh}
 use Rattle.cfi_sim.specs.declared.standing.Standing.TheInside.{Inside}
@@ -34,8 +35,8 @@ whole_inside a = record {
   modules = a.modules.now;
   stage = record {
     world = a.world;
-    journal = a.journal.lines;
-    state = record { epoch = a.epoch; policy = a.policy; loaded = loaded_of a.roster.lines a.roster.placed };
+    journal = a.force.journal.lines;
+    state = state_of a.force;
     aim = aim_of a.pending;
     events = a.events;
   };
@@ -49,7 +50,7 @@ whole_at plan modules world roster = record {
   stage = record {
     world = world;
     journal = [];
-    state = record { epoch = plan.first; policy = 0; loaded = loaded_of roster.lines roster.placed };
+    state = record { epoch = plan.first; policy = 0; loaded = loaded_in_roster roster };
     aim = None;
     events = 0;
   };
@@ -74,14 +75,11 @@ FitsLoaded plan modules loaded policy Refresh = ⊤
 abbrev pub PendingFits : Whole → Pending → Type 0
 PendingFits x pending = FitsLoaded x.plan x.modules x.stage.state.loaded x.stage.state.policy pending
 
--- the roster has the plan's code words, and a line for each of its modules; and what the update brings that is under
--- way fits it
+-- the roster is that of the plan, and what the update brings that is under way fits it
 pub record RosterFits (a : Inside) : Type 0 where
-  pub many : length a.roster.lines ≡ length a.roster.placed
-  pub size : a.roster.code_words ≡ a.plan.now.code_words
-  pub lines : a.roster.lines ≡ map (module_line_of a.plan.now.modules) (loaded_of a.roster.lines a.roster.placed)
+  pub roster_is : IsRosterOf a.plan.now a.force.roster
   pub pending : IfSome a.pending
-      (FitsLoaded a.plan.now a.modules.now (loaded_of a.roster.lines a.roster.placed) a.policy)
+      (FitsLoaded a.plan.now a.modules.now (loaded_in_roster a.force.roster) a.force.policy)
 
 -- the journal is legal so far, and the world agrees with it
 pub record IsUnderWay (x : Whole) : Type 0 where

@@ -15,7 +15,7 @@ use crate::pending::Pending;
 use crate::standing::Standing;
 use cfi_ledger::Offer;
 use cfi_model::Phase;
-use cfi_plan::JournalLine;
+use cfi_plan::{JournalLine, Who};
 use cfi_world::{Event, Turned};
 use std::alloc::AllocError;
 
@@ -53,17 +53,10 @@ impl<'a> Standing<'a> {
         requires few { self.old.stage.state.policy < MAX_LOADED }
         ensures { OnOk result (self.new ≡ with_entered offer self.old) }
     {
-        let module = offer.number();
-        let epoch = self.epoch + 1;
-        let policy = self.policy + 1;
-        self.roster.take(offer)?;
-        self.epoch = epoch;
-        self.policy = policy;
-        self.tell(JournalLine::LoadOk {
-            module,
-            epoch,
-            policy,
-        })?;
+        let number = offer.number();
+        self.force.journal.reserve()?;
+        self.force.roster.take(offer)?;
+        self.force.put_load(Who::Script, number);
         Ok(())
     }
 
@@ -73,9 +66,8 @@ impl<'a> Standing<'a> {
         requires left { self.old.stage.state.epoch < MAX_EPOCH }
         ensures { OnOk result (self.new ≡ with_refreshed self.old) }
     {
-        let epoch = self.epoch + 1;
-        self.epoch = epoch;
-        self.tell(JournalLine::RefreshOk { epoch })?;
+        self.force.journal.reserve()?;
+        self.force.put_refresh(Who::Script);
         Ok(())
     }
 

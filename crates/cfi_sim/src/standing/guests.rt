@@ -11,7 +11,6 @@ ghost use Rattle.cfi_valid.specs.Loaded.{placed_modules};
 
 use crate::opens::find;
 use crate::standing::Standing;
-use cfi_ledger::given_by;
 use cfi_world::{Event, Turned};
 
 impl<'a> Standing<'a> {
@@ -26,10 +25,11 @@ impl<'a> Standing<'a> {
         requires there { IsThere self.old.stage.world guest }
         ensures { AnswersOpen self.old self.new guest number }
     {
-        let found = find(self.plan, &self.world, &self.roster, number);
-        let starts = self.roster.lines().len() - self.policy as usize;
-        let given = given_by(self.world.guests()[guest as usize].log()) as usize;
-        let answer = found.answer(self.policy, self.roster.fills(), starts + given);
+        let found = find(self.plan, &self.world, &self.force.roster, number);
+        let first = self
+            .force
+            .due_from(self.world.guests()[guest as usize].log());
+        let answer = found.answer(self.force.policy, self.force.roster.fills(), first);
         let _ = self.world.turn(Event::Answer(guest, answer));
     }
 

@@ -10,7 +10,7 @@ ghost use Rattle.cfi_valid.specs.declared.limits.TheConstants.{MAX_LOADED};
 
 use crate::pending::Pending;
 use crate::standing::Standing;
-use cfi_ledger::{Entrant, Prospect, join_line};
+use cfi_ledger::{Prospect, join_line};
 use cfi_plan::JournalLine;
 use std::alloc::AllocError;
 
@@ -26,8 +26,8 @@ impl<'a> Standing<'a> {
             (MakesBy (IsLoadEvent self.old.plan self.old.modules number) self.old self.new) }
     {
         let (plan, modules) = (self.plan, self.modules);
-        let entrant = Entrant::of(plan, number, self.policy + 1);
-        match self.roster.offer(&entrant, &modules[number as usize]) {
+        let entrant = self.force.entrant(plan, number);
+        match self.force.roster.offer(&entrant, &modules[number as usize]) {
             Ok((offer, image)) => {
                 let spent = JournalLine::LoadEpochs { module: number };
                 let begun = self.begin(Pending::Load(offer), spent, Some(image))?;
@@ -54,9 +54,9 @@ impl<'a> Standing<'a> {
         ensures { IfOk result
             (MakesBy (IsLoadEvent self.old.plan self.old.modules number) self.old self.new) }
     {
-        match self.roster.prospect(number) {
+        match self.force.roster.prospect(number) {
             Prospect::Again(_) => {
-                let policy = self.policy;
+                let policy = self.force.policy;
                 self.tell(JournalLine::LoadAgain {
                     module: number,
                     policy,

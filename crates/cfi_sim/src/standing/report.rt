@@ -7,6 +7,7 @@ ghost use Rattle.cfi_sim.specs.inner.Standing.{IsUnderWay};
 use crate::report::SimReport;
 use crate::standing::Standing;
 use crate::told::parts_of;
+use cfi_ledger::Force;
 use cfi_report::Report;
 use cfi_values::Items;
 use std::alloc::{AllocError, Global};
@@ -20,13 +21,13 @@ impl<'a> Standing<'a> {
     {
         let guests = parts_of(alloc, self.plan, self.world.guests())?;
         let phase = self.world.phase();
-        let Standing {
+        let Standing { force, .. } = self;
+        let Force {
             roster,
             journal,
             epoch,
             policy,
-            ..
-        } = self;
+        } = force;
         let report = Report {
             epoch,
             policy,

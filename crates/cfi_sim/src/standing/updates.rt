@@ -10,7 +10,7 @@ use crate::limits::{MAX_EVENTS, MAX_UPDATES};
 use crate::opens::is_idle;
 use crate::pending::Pending;
 use crate::standing::Standing;
-use cfi_plan::{Entry, JournalLine, Who};
+use cfi_plan::{JournalLine, Who};
 use cfi_word::Image;
 use cfi_word::limits::MAX_EPOCH;
 use cfi_world::Event;
@@ -21,8 +21,8 @@ impl<'a> Standing<'a> {
     pub(super) fn tell(&mut self, what: JournalLine) -> Result<(), AllocError>
         ensures { OnOk result (self.new ≡ with_told what self.old) }
     {
-        let who = Who::Script;
-        self.journal.append(Entry { who, what })?;
+        self.force.journal.reserve()?;
+        self.force.tell(Who::Script, what);
         Ok(())
     }
 

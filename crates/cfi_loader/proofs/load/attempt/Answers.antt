@@ -1,9 +1,10 @@
-use Rattle.std.proofs.Common.{◌+◌, ℕ, refl, ap, sym, subst, ◌∙◌, arith}
+use Rattle.std.proofs.Common.{◌+◌, ◌<◌, ℕ, refl, ap, sym, subst, ◌∙◌, arith}
 use Rattle.cfi_model.specs.Tables.{IsUpdate}
 use Rattle.cfi_modules.specs.Examples.{sized}
 use Rattle.cfi_tables.specs.Faults.{FaultIs}
 use Rattle.cfi_tables.specs.Keeping.{entry_by, grown_by, last_of}
 use Rattle.cfi_valid.specs.Script.{Load}
+use Rattle.cfi_word.specs.declared.limits.TheConstants.{MAX_EPOCH}
 use Rattle.cfi_word.specs.declared.lists.Image.{Image}
 use Rattle.cfi_ledger.specs.declared.books.Books.{Books}
 use Rattle.cfi_loader.specs.declared.fault.LoadFault.{LoadFault}
@@ -25,7 +26,7 @@ prepare-requires-clause-few g c =
 -- what was found is true of the books as they were
 pub refuse_unjoined-requires-clause-found : goal.refuse_unjoined-requires-clause-found
 refuse_unjoined-requires-clause-found g c =
-    subst (λ (nb : Books). AreFindings nb.modules nb.roster nb.found.items) (sym c.in-Err.ensures.same)
+    subst (λ (nb : Books). AreFindings nb.modules nb.force.roster nb.found.items) (sym c.in-Err.ensures.same)
     c.requires.kept.found_are
 
 pub refuse_unjoined-requires-clause-unprepared : goal.refuse_unjoined-requires-clause-unprepared
@@ -57,14 +58,22 @@ update-requires g c =
     let mark = c.load_mark-mark.result in
     let follows = load_update k b keeping c.requires.kept c.args.number candidate.roster p.ok c.requires.absent
     candidate.book p.book mark in
-    let force = sym (ap (λ (m : Books). m.policy) p.lent) in
+    let force = sym (ap (λ (m : Books). m.force.policy) p.lent) in
     record {
       follows = subst (λ (i : Image). IsUpdate k.code_words (last_of keeping.entries)
-          (entry_by (c.prepare.new.self.policy + 1) i mark)) (sym c.image.ensures)
+          (entry_by (c.prepare.new.self.force.policy + 1) i mark)) (sym c.image.ensures)
           (subst (λ (n : ℕ). IsUpdate k.code_words (last_of keeping.entries) (entry_by (n + 1)
           candidate.book.image mark))
           force follows);
     }
+
+-- an epoch is left for it
+pub commit-requires-clause-left : goal.commit-requires-clause-left
+commit-requires-clause-left g c =
+    let u = c.in-Ok-update.ensures in
+    subst (λ (m : Books). m.force.epoch < MAX_EPOCH) (sym c.in-Ok.ensures.lent)
+    (epoch_left g.N.TableName.key c.args.books.now c.args.keeper.now c.requires.kept
+    (λ spent. not_spent c.in-Ok-update.field-0 (u.spent spent)))
 
 -- it is in force
 pub returns-in-Ok-update-clause-ok : goal.returns-in-Ok-update-clause-ok
@@ -76,17 +85,17 @@ returns-in-Ok-update-clause-ok g c =
     let p = c.in-Ok.ensures in
     let candidate = c.in-Ok.candidate in
     let mid = c.prepare.new.self in
-    let epoch = c.in-Ok-update.epoch in
     let u = c.in-Ok-update.ensures in
-    let left = epoch_left k b keeping kept (λ spent. not_spent epoch (u.spent spent)) in
+    let left = epoch_left k b keeping kept (λ spent. not_spent c.in-Ok-update.field-0 (u.spent spent)) in
     let grown = u.new
-    ∙ ap (λ (i : Image). grown_by (entry_by (mid.policy + 1) i c.load_mark-mark.result) c.update.new.self.quiets keeping)
+    ∙ ap (λ (i : Image). grown_by (entry_by (mid.force.policy + 1) i c.load_mark-mark.result)
+    c.update.new.self.quiets keeping)
     c.image.ensures
-    ∙ ap (λ (n : ℕ). grown_by (entry_by (mid.policy + 1) candidate.book.image n) c.update.new.self.quiets keeping)
+    ∙ ap (λ (n : ℕ). grown_by (entry_by (mid.force.policy + 1) candidate.book.image n) c.update.new.self.quiets keeping)
     c.load_mark-mark.ensures in
     let one = sized 0 0 0 0 0 0 refl in
     made_answers k b keeping kept c.args.who c.args.number c.requires.asks c.requires.absent mid c.commit.new.books
-    p.lent candidate.roster p.ok c.update.new.self candidate.book p.book epoch u.ok left c.commit.ensures.line
+    p.lent candidate.roster p.ok c.update.new.self candidate.book p.book left c.commit.ensures.line
     c.commit.ensures.same grown c.commit.result c.commit.ensures.again c.commit.ensures.epoch
     c.commit.ensures.policy one
     (c.commit.ensures.address one)
@@ -98,7 +107,7 @@ returns-in-Ok-update-clause-kept g c =
     let made = returns-in-Ok-update-clause-ok g c in
     let same = c.commit.ensures.same in
     keeps_classes g.N.TableName.key c.args.books.now c.commit.new.books c.args.keeper.now c.update.new.self
-    candidate.roster candidate.book c.requires.kept made.all.kept (ap (λ (m : Books). m.roster) same)
+    candidate.roster candidate.book c.requires.kept made.all.kept (ap (λ (m : Books). m.force.roster) same)
     (ap (λ (m : Books). m.book) same) c.in-Ok.ensures.kept
 
 -- the keeper has refused it: the books are as they were, but for the line
@@ -109,7 +118,7 @@ keep_joining-requires-clause-found g c =
     let back = turned_down k c.args.books.now c.args.keeper.now c.requires.kept c.args.who c.args.number c.requires.asks
     c.requires.absent c.prepare.new.self c.turn_down-fault.new.books p.lent c.in-Ok.candidate.roster p.ok
     c.update.new.self c.in-Ok.candidate.before p.before c.turn_down-fault.ensures.same in
-    subst (λ (nb : Books). AreFindings nb.modules nb.roster nb.found.items) (sym back) c.requires.kept.found_are
+    subst (λ (nb : Books). AreFindings nb.modules nb.force.roster nb.found.items) (sym back) c.requires.kept.found_are
 
 pub keep_joining-requires-clause-joins : goal.keep_joining-requires-clause-joins
 keep_joining-requires-clause-joins g c =
@@ -118,7 +127,7 @@ keep_joining-requires-clause-joins g c =
     let back = turned_down k c.args.books.now c.args.keeper.now c.requires.kept c.args.who c.args.number c.requires.asks
     c.requires.absent c.prepare.new.self c.turn_down-fault.new.books p.lent c.in-Ok.candidate.roster p.ok
     c.update.new.self c.in-Ok.candidate.before p.before c.turn_down-fault.ensures.same in
-    subst (λ (nb : Books). DoesJoin nb.modules nb.roster c.args.number) (sym back) (record {
+    subst (λ (nb : Books). DoesJoin nb.modules nb.force.roster c.args.number) (sym back) (record {
       unplaced = p.ok.unplaced;
       is = p.ok.is;
       placed = p.ok.joined.one;

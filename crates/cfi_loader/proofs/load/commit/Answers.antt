@@ -6,9 +6,9 @@ use Rattle.cfi_loader.proofs.load.commit.Goals as goal
 
 pub returns-clause-address : goal.returns-clause-address
 returns-clause-address c = λ d.
-    let same = ap (λ (b : Books). b.roster.placed) c.commit.ensures.same in
+    let same = ap (λ (b : Books). b.force.roster.placed) c.commit.ensures.same in
     let modules = c.modules.ensures.value ∙ same in
     let found = c.address_at.result in
     subst (λ (ps : List Placed). IsFirstGlobal (get_or ps (length c.args.candidate.roster.placed - 1) d) found) same
-    (subst (λ (ps : List Placed). IsFirstGlobal (get_or c.commit.new.self.roster.placed (length ps - 1) d) found)
+    (subst (λ (ps : List Placed). IsFirstGlobal (get_or c.commit.new.self.force.roster.placed (length ps - 1) d) found)
     modules (c.address_at.ensures d))

@@ -39,6 +39,7 @@ returns-in-Full-clause-fault g c =
     let asks = subst (λ (l : Ledger). MayAskFor l c.args.who (Load c.args.number))
     (sym (ledger_same k b mid keeping kept r.lines r.left r.same)) c.requires.asks in
     let many = mid_kept.roster_is.many in
+    let loaded = many_are origin_of mid.force.roster.lines mid.force.roster.placed many in
     refuses_from k b mid keeping kept r.lines r.left r.same c.args.who c.args.number ModulesFull c.tell.new.self keeping
     (full_refuses k mid keeping mid_kept c.args.who c.args.number asks c.tell.new.self c.tell.ensures.line
     c.tell.ensures.same (record {
@@ -48,8 +49,8 @@ returns-in-Full-clause-fault g c =
         mid_kept.ledger.can_start.count,
         ap (λ (m : Books). length m.plan.modules) r.same,
       );
-      absent = unlisted_absent mid.roster many c.args.number c.in-Full.ensures.0;
-      full = omega (arith, c.in-Full.ensures.1, many, many_are origin_of mid.roster.lines mid.roster.placed many);
+      absent = unlisted_absent mid.force.roster many c.args.number c.in-Full.ensures.0;
+      full = omega (arith, c.in-Full.ensures.1, many, loaded);
     }))
 
 -- it is not loaded, and there is room
@@ -61,7 +62,8 @@ add-requires-clause-absent g c =
     let r = c.if-not-reserve.ensures in
     let mid_kept = reserved k b mid c.args.keeper.now c.requires.kept r.lines r.left r.same in
     let many = mid_kept.roster_is.many in
+    let loaded = many_are origin_of mid.force.roster.lines mid.force.roster.placed many in
     record {
-      absent = unlisted_absent mid.roster many c.args.number c.in-Open.ensures.0;
-      room = omega (arith, c.in-Open.ensures.1, many, many_are origin_of mid.roster.lines mid.roster.placed many);
+      absent = unlisted_absent mid.force.roster many c.args.number c.in-Open.ensures.0;
+      room = omega (arith, c.in-Open.ensures.1, many, loaded);
     }

@@ -3,8 +3,7 @@ use Rattle.cfi_plan.specs.declared.journal.JournalLine.{JournalLine}
 use Rattle.cfi_modules.specs.Numbers.{numbers_of}
 use Rattle.cfi_ledger.specs.declared.books.Books.{Books}
 use Rattle.cfi_loader.specs.declared.fault.LoadFault.{LoadFault}
-use Rattle.cfi_ledger.specs.Journal.{asked_by}
-use Rattle.cfi_ledger.specs.Journal.{HasLine}
+use Rattle.cfi_ledger.specs.Journal.{asked_by, HasLine}
 use Rattle.cfi_loader.specs.inner.Loads.{Refuses, load_fault_of}
 use Rattle.cfi_loader.proofs.AddLemmas.{told_refuses, starved_refuses}
 use Rattle.cfi_ledger.proofs.NumberedLemmas.{from_numbers, from_none}
@@ -21,7 +20,8 @@ returns-clause-after c = λ k keeping kept asks absent.
           let told = from_numbers c.args.number (numbers_of fault) w.in-Some.line
           (sym c.join_line.ensures ∙ w.in-Some.is) in
           let new = w.tell.new.self in
-          let has = subst (λ (line : JournalLine). HasLine (asked_by c.args.who line) b.journal new.journal) told.2
+          let has = subst (λ (line : JournalLine). HasLine (asked_by c.args.who line) b.force.journal new.force.journal)
+          told.2
           w.tell.ensures.line in
           subst (λ (nb : Books). Refuses k c.args.who c.args.number (load_fault_of fault) b nb keeping keeping)
           (sym w.books-is)

@@ -17,8 +17,8 @@ returns-clause-ok c =
     slice_get_read b.modules (length b.modules) c.args.number m refl
     (omega (arith, c.requires.known, c.requires.can.count))
     (c.index-as_slice-number.is ∙ ap (λ (ms : List Module). get_or ms c.args.number m) c.as_slice.ensures) in
-    IfOk-weaker c.joins.result (λ _. (one : Placed) × Joins b.roster.code_words b.roster.placed m one)
-    (λ _. DoesJoin b.modules b.roster c.args.number)
+    IfOk-weaker c.joins.result (λ _. (one : Placed) × Joins b.force.roster.code_words b.force.roster.placed m one)
+    (λ _. DoesJoin b.modules b.force.roster c.args.number)
     (λ _ joined. record { unplaced = m; is = is; placed = joined.0; joins = joined.1 }) c.joins.ensures.ok
 
 pub returns-clause-fault : goal.returns-clause-fault
@@ -29,5 +29,6 @@ returns-clause-fault c =
     slice_get_read b.modules (length b.modules) c.args.number m refl
     (omega (arith, c.requires.known, c.requires.can.count))
     (c.index-as_slice-number.is ∙ ap (λ (ms : List Module). get_or ms c.args.number m) c.as_slice.ensures) in
-    IfErr-weaker c.joins.result (IsJoinFault b.roster.code_words b.roster.placed m) (IsUnprepared b c.args.number)
+    IfErr-weaker c.joins.result (IsJoinFault b.force.roster.code_words b.force.roster.placed m)
+    (IsUnprepared b c.args.number)
     (λ fault why. record { unplaced = m; is = is; why = why }) c.joins.ensures.fault

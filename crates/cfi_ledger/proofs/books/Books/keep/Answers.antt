@@ -16,9 +16,10 @@ returns-in-Some-clause-found c =
     let same : m ≡ its.unplaced =
     c.index-as_slice-number.is ∙ ap (λ (ms : List Module). get_or ms c.args.number m) c.as_slice.ensures
     ∙ get_or_from_slice_get b.modules c.args.number its.unplaced m its.is in
-    let why : IsJoinFault b.roster.code_words b.roster.placed m c.args.fault.now =
-    subst (λ (u : Module). IsJoinFault b.roster.code_words b.roster.placed u c.args.fault.now) (sym same) its.why in
-    let says = subst (JoinsBut b.roster.code_words b.roster.placed m)
+    let why : IsJoinFault b.force.roster.code_words b.force.roster.placed m c.args.fault.now =
+    subst (λ (u : Module). IsJoinFault b.force.roster.code_words b.force.roster.placed u c.args.fault.now)
+    (sym same) its.why in
+    let says = subst (JoinsBut b.force.roster.code_words b.force.roster.placed m)
     (sym c.in-Some.ensures) why in
     noted_now b c.args.number c.in-Some.outcome c.requires.found c.note.new.self.found.items c.note.ensures.found
     m (subst (λ (u : Module). slice_get b.modules c.args.number ≡ Some u) (sym same) its.is) says

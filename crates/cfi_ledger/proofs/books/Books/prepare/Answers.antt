@@ -18,8 +18,8 @@ returns-in-Ok-clause-ok c =
     let b = c.args.self.now in
     let m = c.index-as_slice-number.result in
     let new = c.in-Ok.candidate.roster in
-    let entrant = c.of-entrant.result in
-    let its = c.of-entrant.ensures in
+    let entrant = c.entrant-entrant.result in
+    let its = c.entrant-entrant.ensures in
     let joined = subst (λ (r : Roster). HasJoined entrant.number entrant.name.now entrant.policy m r new)
     c.replace-roster.ensures.value c.in-Ok.ensures.ok in
     record {
@@ -27,8 +27,8 @@ returns-in-Ok-clause-ok c =
       is = slice_get_read b.modules (length b.modules) c.args.number m refl
           (omega (arith, c.requires.known, c.requires.can.count))
           (c.index-as_slice-number.is ∙ ap (λ (ms : List Module). get_or ms c.args.number m) c.as_slice.ensures);
-      joined = entrant_joined entrant c.args.number (planned_name b.plan.modules c.args.number) (b.policy + 1)
-          its.number its.name its.policy m b.roster new joined;
+      joined = entrant_joined entrant c.args.number (planned_name b.plan.modules c.args.number) (b.force.policy + 1)
+          its.number its.name its.policy m b.force.roster new joined;
     }
 
 -- or it does not

@@ -12,8 +12,8 @@ returns-clause-some g c =
     let b = c.self.inside.books in
     let name = c.args.name.now in
     let found = c.entry_at.result in
-    let some = entry_some g.N.TableName.key b c.self.inside.keeper c.self.invariant.kept c.modules.result.now
-    c.modules.ensures.value name found c.entry_at.ensures.some in
+    let some = entry_some g.N.TableName.key b c.self.inside.keeper c.self.invariant.kept c.starts.result
+    c.starts.ensures.is c.modules.result.now c.modules.ensures.value name found c.entry_at.ensures.some in
     subst (λ (l : Ledger). IfSome found (GuestBegins g.N.LoaderName.plan l.course.end.loaded name)) c.self.view_is
     (subst (λ (p : Plan). IfSome found (GuestBegins p (loaded_in b) name)) c.self.invariant.plan_is some)
 
@@ -25,5 +25,6 @@ returns-clause-only g c = λ address begins.
     subst (λ (p : Plan). GuestBegins p (loaded_in b) name address) (sym c.self.invariant.plan_is)
     (subst (λ (l : Ledger). GuestBegins g.N.LoaderName.plan l.course.end.loaded name address) (sym c.self.view_is)
     begins) in
-    entry_only g.N.TableName.key b c.self.inside.keeper c.self.invariant.kept c.modules.result.now
-    c.modules.ensures.value name c.entry_at.result c.entry_at.ensures.only address here
+    entry_only g.N.TableName.key b c.self.inside.keeper c.self.invariant.kept c.starts.result
+    c.starts.ensures.is c.modules.result.now c.modules.ensures.value name
+    c.entry_at.result c.entry_at.ensures.only address here

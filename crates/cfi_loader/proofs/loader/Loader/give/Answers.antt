@@ -1,6 +1,7 @@
 use Rattle.std.proofs.Common.{◌≡◌, ◌+◌, ◌≤◌, ℕ, List, drop, All, sym, ap, subst, ◌∙◌}
+use Rattle.cfi_ledger.specs.Force.{starts_in}
 use Rattle.cfi_ledger.specs.Opens.{given_reply}
-use Rattle.cfi_ledger.proofs.DueLemmas.{given_inside, given_policy}
+use Rattle.cfi_ledger.proofs.DueLemmas.{fills_due, given_inside, given_policy}
 use Rattle.cfi_model.specs.Data.{LiesInData}
 use Rattle.cfi_model.specs.Log.{last_policy}
 use Rattle.cfi_model.specs.Run.{serve_of}
@@ -13,7 +14,7 @@ use Rattle.cfi_word.specs.declared.limits.TheConstants.{MAX_POLICY}
 use Rattle.rv_guest.specs.Guest.{MayAnswer}
 use Rattle.cfi_loader.specs.Ledger.{Ledger}
 use Rattle.cfi_loader.specs.Passes.{reply_with}
-use Rattle.cfi_loader.proofs.ReadLemmas.{policy_most, fills_lie, fills_due}
+use Rattle.cfi_loader.proofs.ReadLemmas.{policy_most, fills_lie}
 use Rattle.cfi_loader.proofs.loader.Loader.give.Goals as goal
 
 -- the answer is under the policy in force, and its data lies in private data
@@ -21,12 +22,12 @@ pub answer-requires : goal.answer-requires
 answer-requires g c =
     let a = c.self.inside in
     let guest = c.args.guest.now in
-    let policy : ℕ = a.books.policy in
+    let policy : ℕ = a.books.force.policy in
     let address = c.args.loaded.now.address in
-    let given : ℕ = a.books.starts + c.given_by.result in
-    let fills : List Fill = drop given c.fills-fills.result.now in
-    let lies : All LiesInData fills = subst (λ (fs : List Fill). All LiesInData (drop given fs)) (sym c.fills-fills.ensures)
-    (fills_lie g.N.TableName.key a.books a.keeper c.self.invariant.kept given) in
+    let first : ℕ = c.due_from-first.result in
+    let fills : List Fill = drop first c.fills-fills.result.now in
+    let lies : All LiesInData fills = subst (λ (fs : List Fill). All LiesInData (drop first fs)) (sym c.fills-fills.ensures)
+    (fills_lie g.N.TableName.key a.books a.keeper c.self.invariant.kept first) in
     let same = sym (given_policy address policy fills) in
     subst (λ (r : Reply). MayAnswer r guest) (sym c.open_answer.ensures) (record {
       waiting = c.requires.waits;
@@ -46,11 +47,13 @@ returns g c =
     let guest = c.args.guest.now in
     let log : List Log = guest.base.log in
     let address = c.args.loaded.now.address in
-    let given = c.given_by.ensures ∙ ap given_by c.log.ensures.entries in
-    let due : drop (a.books.starts + c.given_by.result) c.fills-fills.result.now ≡ _ =
-    ap (drop (a.books.starts + c.given_by.result)) c.fills-fills.ensures
-    ∙ ap (λ (n : ℕ). drop (a.books.starts + n) (fills_of a.books.roster.placed)) given
-    ∙ sym (fills_due g.N.TableName.key a.books a.keeper c.self.invariant.kept (given_by log)) in
+    let f = a.books.force in
+    let kept = c.self.invariant.kept in
+    let first = c.due_from-first.ensures ∙ ap (λ (l : List Log). starts_in f + given_by l) c.log.ensures.entries in
+    let due : drop c.due_from-first.result c.fills-fills.result.now ≡ _ =
+    ap (drop c.due_from-first.result) c.fills-fills.ensures
+    ∙ ap (λ (n : ℕ). drop n (fills_of f.roster.placed)) first
+    ∙ sym (fills_due a.books.plan f kept.ledger.policies kept.roster_is (given_by log)) in
     c.answer.ensures
-    ∙ ap (serve_of guest) (c.open_answer.ensures ∙ ap (given_reply address a.books.policy) due)
+    ∙ ap (serve_of guest) (c.open_answer.ensures ∙ ap (given_reply address a.books.force.policy) due)
     ∙ ap (λ (l : Ledger). serve_of guest (reply_with l log address)) c.self.view_is

@@ -1,25 +1,26 @@
-use Rattle.std.proofs.Common.{◌≡◌, ℕ, ◌+◌, ◌-◌, List, Some, All, slice_get, length, drop, sym, subst, ap, ◌∙◌, arith}
+use Rattle.std.proofs.Common.{◌≡◌, ℕ, ◌+◌, List, Some, All, slice_get, drop, sym, subst, ap, ◌∙◌}
 use Rattle.std.proofs.lemmas.List.Elements.{All-drop}
 use Rattle.std.proofs.lemmas.Option.{slice_get-get_or, slice_get_within}
+use Rattle.cfi_ledger.specs.Force.{starts_in}
 use Rattle.cfi_ledger.specs.Roster.{origin_of}
 use Rattle.cfi_ledger.specs.Policies.{HavePolicies}
+use Rattle.cfi_ledger.proofs.DueLemmas.{fills_due}
 use Rattle.cfi_model.specs.Data.{LiesInData}
 use Rattle.cfi_model.specs.Raw.{Raw}
 use Rattle.cfi_model.specs.Words.{policy_in_force}
 use Rattle.cfi_modules.specs.Fills.{fills_of}
 use Rattle.cfi_modules.specs.Series.{IsSeries}
 use Rattle.cfi_modules.proofs.PrefixLemmas.{data_lies}
-use Rattle.cfi_plan.specs.declared.journal.ModuleLine.{ModuleLine}
 use Rattle.cfi_sim.specs.Agrees.{NumbersAreApart}
 use Rattle.cfi_sim.specs.Events.{found_reply}
 use Rattle.cfi_sim.specs.inner.Standing.{Whole, AnswersOpen, whole_inside}
 use Rattle.cfi_unit.specs.declared.fill.Fill.{Fill}
 use Rattle.cfi_unit.specs.declared.log.Log.{Log}
-use Rattle.cfi_valid.proofs.KeptLemmas.{many_are, places_are}
+use Rattle.cfi_valid.proofs.KeptLemmas.{places_are}
 use Rattle.cfi_valid.specs.Loaded.{placed_modules}
 use Rattle.cfi_valid.specs.Replay.{given_by}
 use Rattle.cfi_world.specs.Premises.{MayAnswer}
-use Rattle.cfi_sim.proofs.guests.DueLemmas.{answers_open, due_is, found_may}
+use Rattle.cfi_sim.proofs.guests.DueLemmas.{answers_open, found_may}
 use Rattle.cfi_sim.proofs.standing.Standing.answer.Goals as goal
 
 pub find-found-requires-clause-apart : goal.find-found-requires-clause-apart
@@ -37,17 +38,19 @@ pub turn-requires : goal.turn-requires
 turn-requires c =
     let a = c.self.inside in
     let size = a.plan.now.code_words in
-    let given : ℕ = length c.lines.result.now - a.policy + c.given_by-given.result in
-    let series = subst (IsSeries size) (places_are origin_of a.roster.lines a.roster.placed c.self.invariant.many)
+    let first : ℕ = c.due_from-first.result in
+    let series = subst (IsSeries size) (places_are origin_of a.force.roster.lines a.force.roster.placed
+    c.self.invariant.roster_is.many)
     (subst (λ (y : Whole). IsSeries y.plan.code_words (placed_modules y.stage.state.loaded)) (sym c.self.view_is)
     c.requires.series) in
-    let force : a.policy ≡ policy_in_force a.world.tables =
+    let force : a.force.policy ≡ policy_in_force a.world.tables =
     sym (subst (λ (y : Whole). policy_in_force y.stage.world.tables ≡ y.stage.state.policy) (sym c.self.view_is)
     c.requires.policy) in
-    let lies = All-drop LiesInData given (fills_of a.roster.placed) (data_lies size a.roster.placed series) in
+    let lies = All-drop LiesInData first (fills_of a.force.roster.placed)
+    (data_lies size a.force.roster.placed series) in
     subst (MayAnswer a.world) (sym c.answer-answer.ensures)
-    (found_may a.world c.find-found.result a.policy (drop given c.fills.result.now) force
-    (subst (λ (fs : List Fill). All LiesInData (drop given fs)) (sym c.fills.ensures) lies))
+    (found_may a.world c.find-found.result a.force.policy (drop first c.fills.result.now) force
+    (subst (λ (fs : List Fill). All LiesInData (drop first fs)) (sym c.fills.ensures) lies))
 
 -- the answer is the reply to what the open finds
 pub returns : goal.returns
@@ -67,23 +70,15 @@ returns c =
     ∙ slice_get-get_or c.guests.result.now c.args.guest r
     (slice_get_within c.guests.result.now c.args.guest seated in_slice)
     ∙ ap (λ (g : Raw). Some g) (sym c.index-guests-guest.is) in
-    let given : c.given_by-given.result ≡ given_by r.base.log =
-    c.given_by-given.ensures ∙ ap (λ (log : List Log). given_by log) c.log.ensures.entries in
     let have : HavePolicies inside.plan.now x.stage.state =
     subst (λ (y : Whole). HavePolicies y.plan y.stage.state) (sym c.self.view_is) c.requires.policies in
-    let from : ℕ = length c.lines.result.now - inside.policy in
-    let many = many_are origin_of inside.roster.lines inside.roster.placed c.self.invariant.many in
-    let lines = ap (λ (ls : List ModuleLine). length ls) c.lines.ensures.value in
-    let from_is : from + inside.policy ≡ length x.stage.state.loaded =
-    omega (arith, many, c.self.invariant.many, lines, have.count) in
+    let f = inside.force in
+    let first = c.due_from-first.ensures ∙ ap (λ (log : List Log). starts_in f + given_by log) c.log.ensures.entries in
     subst (λ (y : Whole). AnswersOpen y (record x { stage = record x.stage { world = new } }) c.args.guest c.args.number
     ) c.self.view_is
     (answers_open x c.args.guest c.args.number r seat found c.find-found.ensures c.answer-answer.result
     (c.answer-answer.ensures
-    ∙ ap (λ (fills : List Fill). found_reply found inside.policy (drop (from + c.given_by-given.result) fills))
-    c.fills.ensures
-    ∙ ap (λ (n : ℕ). found_reply found inside.policy (drop (from + n) (fills_of inside.roster.placed))) given
-    ∙ ap (found_reply found inside.policy)
-    (due_is inside.plan.now x.stage.state have inside.roster.placed
-    (places_are origin_of inside.roster.lines inside.roster.placed c.self.invariant.many) from from_is
-    (given_by r.base.log))) new c.turn.ensures.world)
+    ∙ ap (λ (fills : List Fill). found_reply found f.policy (drop c.due_from-first.result fills)) c.fills.ensures
+    ∙ ap (λ (n : ℕ). found_reply found f.policy (drop n (fills_of f.roster.placed))) first
+    ∙ ap (found_reply found f.policy)
+    (sym (fills_due inside.plan.now f have c.self.invariant.roster_is (given_by r.base.log)))) new c.turn.ensures.world)

@@ -5,8 +5,6 @@ use Rattle.cfi_sim.proofs.standing.Standing.begin.Goals as goal
 -- what it brings fits
 pub invariant_of-self-2 : goal.invariant_of-self-2
 invariant_of-self-2 c = record {
-  many = c.self.invariant.many;
-  size = c.self.invariant.size;
-  lines = c.self.invariant.lines;
+  roster_is = c.self.invariant.roster_is;
   pending = subst (λ (w : Whole). PendingFits w c.args.pending) (sym c.self.view_is) c.requires.fits;
 }

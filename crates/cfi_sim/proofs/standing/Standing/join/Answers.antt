@@ -8,11 +8,11 @@ pub begin-requires-clause-fits : goal.begin-requires-clause-fits
 begin-requires-clause-fits c =
     let a = c.self.inside in
     let m = c.index-modules-number.result in
-    let entrant = c.of-entrant.result in
-    let its = c.of-entrant.ensures in
+    let entrant = c.entrant-entrant.result in
+    let its = c.entrant-entrant.ensures in
     let offer = c.in-Ok.offer in
-    let is = entrant_offered entrant c.args.number (planned_name a.plan.now.modules c.args.number) (a.policy + 1)
-    its.number its.name its.policy m a.roster offer c.in-Ok.ensures.ok in
+    let is = entrant_offered entrant c.args.number (planned_name a.plan.now.modules c.args.number) (a.force.policy + 1)
+    its.number its.name its.policy m a.force.roster offer c.in-Ok.ensures.ok in
     offer_fits a c.self.invariant c.args.self.now c.self.view_is c.requires.under_way c.requires.within
     c.args.number c.requires.known c.requires.absent c.requires.room m c.index-modules-number.is offer is
     c.in-Ok.image c.in-Ok.ensures.image c.in-Ok.ensures.ordered c.offer.new.self c.in-Ok.ensures.same
@@ -21,11 +21,11 @@ pub begin-requires-clause-may : goal.begin-requires-clause-may
 begin-requires-clause-may c =
     let a = c.self.inside in
     let m = c.index-modules-number.result in
-    let entrant = c.of-entrant.result in
-    let its = c.of-entrant.ensures in
+    let entrant = c.entrant-entrant.result in
+    let its = c.entrant-entrant.ensures in
     let offer = c.in-Ok.offer in
-    let is = entrant_offered entrant c.args.number (planned_name a.plan.now.modules c.args.number) (a.policy + 1)
-    its.number its.name its.policy m a.roster offer c.in-Ok.ensures.ok in
+    let is = entrant_offered entrant c.args.number (planned_name a.plan.now.modules c.args.number) (a.force.policy + 1)
+    its.number its.name its.policy m a.force.roster offer c.in-Ok.ensures.ok in
     may_load a c.self.invariant c.args.self.now c.self.view_is c.requires.under_way c.requires.within
     c.args.number c.requires.known c.requires.absent c.requires.room m c.index-modules-number.is offer is
     c.in-Ok.image c.in-Ok.ensures.image c.in-Ok.ensures.ordered
@@ -35,11 +35,11 @@ pub returns-in_ok-begun-in-Ok : goal.returns-in_ok-begun-in-Ok
 returns-in_ok-begun-in-Ok c =
     let a = c.self.inside in
     let m = c.index-modules-number.result in
-    let entrant = c.of-entrant.result in
-    let its = c.of-entrant.ensures in
+    let entrant = c.entrant-entrant.result in
+    let its = c.entrant-entrant.ensures in
     let offer = c.in-Ok.offer in
-    let is = entrant_offered entrant c.args.number (planned_name a.plan.now.modules c.args.number) (a.policy + 1)
-    its.number its.name its.policy m a.roster offer c.in-Ok.ensures.ok in
+    let is = entrant_offered entrant c.args.number (planned_name a.plan.now.modules c.args.number) (a.force.policy + 1)
+    its.number its.name its.policy m a.force.roster offer c.in-Ok.ensures.ok in
     begun_load a c.self.invariant c.args.self.now c.self.view_is c.requires.under_way c.requires.within
     c.args.number c.requires.known c.requires.absent c.requires.room m c.index-modules-number.is offer is
     c.in-Ok.image c.in-Ok.ensures.image c.in-Ok.ensures.ordered c.offer.new.self c.in-Ok.ensures.same

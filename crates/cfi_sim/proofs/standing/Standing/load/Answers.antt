@@ -9,7 +9,8 @@ pub returns-in_ok-tell-in-Again : goal.returns-in_ok-tell-in-Again
 returns-in_ok-tell-in-Again c =
     again_load c.self.inside c.self.invariant c.args.self.now c.self.view_is c.requires.under_way c.requires.within
     c.args.number c.requires.known c.in-Again.field-0 c.in-Again.ensures c.tell.new.self
-    (c.in_ok-tell-in-Again.ensures ∙ ap (with_told (LoadAgain c.args.number c.self.inside.policy)) (sym c.self.view_is))
+    (c.in_ok-tell-in-Again.ensures ∙ ap (with_told (LoadAgain c.args.number c.self.inside.force.policy))
+    (sym c.self.view_is))
 
 -- no further one may be
 pub returns-in_ok-tell-in-Full : goal.returns-in_ok-tell-in-Full
