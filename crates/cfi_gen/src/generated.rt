@@ -11,8 +11,8 @@ ghost use Rattle.cfi_plan.specs.Reading.{plan_in};
 
 use crate::draws::draw_modules;
 use crate::files::files_of;
-use crate::plan_read::plans_are_read;
 use crate::plan::plan_of;
+use crate::plan_read::plans_are_read;
 use cfi_commands::CommandFault;
 use cfi_plan::{Plan, PlanFault, read_plan};
 use cfi_values::{Bytes, Items};

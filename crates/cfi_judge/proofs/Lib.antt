@@ -10,3 +10,6 @@ pub mod ModulesLemmas
 pub mod LogLemmas
 pub mod CourseLemmas
 pub mod SpanLemmas
+pub mod RowLemmas
+pub mod GrowLemmas
+pub mod JudgeLemmas

@@ -4,7 +4,7 @@ use Rattle.std.specs.Prelude.{IfErr, IfOk}
 use Rattle.std.specs.List.{slice_get}
 use Rattle.cfi_aux.specs.declared.modules.Module.{Module}
 use Rattle.cfi_ledger.specs.Roster.{HasJoined, Roster, loaded_in_roster}
-use Rattle.cfi_ledger.proofs.JoinedLemmas.{joined_lines, joined_loaded, joined_many}
+use Rattle.cfi_ledger.proofs.JoinedLemmas.{joined_loaded, joined_roster}
 use Rattle.cfi_plan.specs.declared.journal.JournalLine.{JournalLine}
 use Rattle.cfi_plan.specs.declared.journal.JournalLine.TheVariants.{LoadOk, LoadAgain, LoadFull, LoadPlace, LoadVerify, LoadVersions, LoadEpochs, RefreshOk, RefreshVersions, RefreshEpochs}
 use Rattle.cfi_plan.specs.declared.plan.Plan.{Plan}
@@ -64,20 +64,15 @@ module _ (plan : Plan) (modules : List Module) (old : Reached) (stands : StandsI
           absent = free;
           placed = joined.one;
           joins = subst (λ (n : ℕ). Joins n (placed_modules loaded) free.unplaced joined.one) stands.code_words_are
-              (joins_there old.roster stands.lined number modules m there free joined.one joined.joins);
+              (joins_there old.roster stands.many number modules m there free joined.one joined.joins);
         } in (
           record { clean = clean; goes = goes; next = next },
           ap (λ (ls : List LoadedModule). record { epoch = epoch; policy = policy; loaded = ls })
-              (joined_loaded number name policy m old.roster roster joined stands.lined),
+              (joined_loaded number name policy m old.roster roster joined stands.many),
         )
 
     pub still_stands : name ≡ planned_name plan.modules number → StandsIn plan new
-    still_stands name_is = record {
-      code_words_are = ap (λ (r : Roster). r.code_words) joined.is ∙ stands.code_words_are;
-      lined = joined_many number name policy m old.roster roster joined stands.lined;
-      lines_are = joined_lines number name policy m old.roster roster joined stands.lined plan.modules stands.lines_are
-          name_is;
-    }
+    still_stands name_is = joined_roster number name policy m old.roster roster joined plan stands name_is
 
   -- or it does not
   pub never_loads : (fault : JoinFault) → IsJoinFault old.roster.code_words old.roster.placed m fault → fault ≢ Memory
@@ -86,7 +81,7 @@ module _ (plan : Plan) (modules : List Module) (old : Reached) (stands : StandsI
   never_loads fault why some epoch policy after leads =
       let clean : HasNoFault old.roster.code_words modules loaded number =
       subst (λ (n : ℕ). HasNoFault n modules loaded number) (sym stands.code_words_are) leads.0.clean in
-      let joins = none_meets old.roster stands.lined number modules m there clean in
+      let joins = none_meets old.roster stands.many number modules m there clean in
       some (joins_or_refused old.roster.code_words old.roster.placed m joins.0 fault joins.1 why)
 
   -- so its fault says that no state comes of the line

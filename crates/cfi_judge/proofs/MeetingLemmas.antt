@@ -23,7 +23,8 @@ use Rattle.cfi_judge.proofs.ItemLemmas.{found}
 
 -- ---- one answer
 
-told_not_memory : (fault : JoinFault) (numbers : FaultNumbers) → numbers_of fault ≡ Some numbers → fault ≡ Memory → ⊥
+pub told_not_memory : (fault : JoinFault) (numbers : FaultNumbers) → numbers_of fault ≡ Some numbers
+    → fault ≡ Memory → ⊥
 told_not_memory fault numbers told same =
     let none : numbers_of fault ≡ None = ap numbers_of same in cc
 

@@ -6,3 +6,5 @@ pub mod Lines
 pub mod Walk
 pub mod Steps
 pub mod Log
+pub mod Rows
+pub mod Judge

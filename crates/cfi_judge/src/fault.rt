@@ -2,6 +2,7 @@
 
 ghost use Rattle.std.specs.Prelude.{◌≡◌, IfErr, IsTrue, OnOk};
 ghost use Rattle.cfi_judge.specs.inner.Faults.{Refutes};
+ghost use Rattle.cfi_judge.specs.declared.fault.JournalFault.TheVariants as journals;
 ghost use Rattle.cfi_judge.specs.declared.fault.LineFault.TheVariants.{Memory};
 
 use std::alloc::AllocError;
@@ -31,6 +32,14 @@ pub enum JournalFault {
     Line(usize),
     /// There is no memory to tell.
     Memory,
+}
+
+impl From<AllocError> for JournalFault {
+    ghost from_gives = { λ _ e. e ≡ journals.Memory };
+
+    fn from(_error: AllocError) -> JournalFault {
+        JournalFault::Memory
+    }
 }
 
 // What makes a line legal holds.

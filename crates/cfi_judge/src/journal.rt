@@ -17,8 +17,8 @@ use cfi_ledger::Roster;
 use cfi_plan::{Entry, Plan};
 use cfi_report::Report;
 
-// The fault of the journal whose line of this number has a fault.
-fn at_line(number: usize, fault: LineFault) -> JournalFault
+/// The fault of the journal whose line of this number has a fault.
+pub(crate) fn at_line(number: usize, fault: LineFault) -> JournalFault
     ensures { result ≡ at_line number fault }
 {
     match fault {

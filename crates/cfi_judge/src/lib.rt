@@ -3,11 +3,10 @@
 //! Stands on `cfi_valid`, whose definitions it decides, on `cfi_ledger`, which has the loaded modules, and on what
 //! these stand on. Proved: each part is answered with yes exactly where its definition holds: the script; the guests,
 //! against the start modules; the journal, line by line from the start modules on, with the first line that is not
-//! legal; the modules, where the journal is legal; of a log, that its policies never fall, that what it says was opened
-//! is loaded there, that opens which came too many versions ahead are told by the journal, and that a module has no
-//! function; and the steps, against the state to which a replay has come. No guest is run. Only tested: nothing. Open:
-//! the other causes of a log, the replay, modules where the journal is not legal, the judge of a whole report; that
-//! memory suffices.
+//! legal; the modules, where the journal is legal; the log of each guest, with all causes of its opens, against what
+//! each module of the plan meets behind those that each policy finds loaded, which is noted along the journal; and the
+//! steps, against the state to which a replay has come. No guest is run. Only tested: nothing. Open: the replay,
+//! modules and logs where the journal is not legal, the judge of a whole report; that memory suffices.
 #![tactic(auto)]
 
 mod causes;
@@ -15,12 +14,14 @@ mod entries;
 mod fault;
 mod guests;
 mod journal;
+mod judge;
 pub mod laws;
 mod lines;
 mod log;
 mod meeting;
 mod modules;
 mod reached;
+mod rows;
 mod script;
 mod span;
 mod steps;
@@ -29,9 +30,11 @@ pub use causes::versions_are_told;
 pub use fault::JournalFault;
 pub use guests::has_guests;
 pub use journal::journal_end;
+pub use judge::Judge;
 pub use log::{log_opens, log_rises};
 pub use modules::has_modules;
 pub use reached::Reached;
+pub use rows::{Meeting, meetings};
 pub use script::has_script;
 pub use span::lacks_function;
 pub use steps::has_steps;

@@ -38,8 +38,8 @@ impl Reached {
         policy > self.policy && policy - self.policy == 1
     }
 
-    // An update goes to no epoch.
-    fn is_last_epoch(&self) -> bool
+    /// An update goes to no epoch.
+    pub(crate) fn is_last_epoch(&self) -> bool
         ensures { IsTrue result ↔ IsOutOfEpochs (state_of self.now) }
     {
         self.epoch == MAX_EPOCH

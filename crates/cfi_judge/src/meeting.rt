@@ -56,8 +56,11 @@ pub(crate) fn is_unloaded(roster: &Roster, modules: &[Module], number: u32) -> b
     }
 }
 
-// What a module meets.
-fn meets(roster: &mut Roster, unplaced: &Module) -> Result<Option<FaultNumbers>, AllocError>
+/// What a module meets.
+pub(crate) fn meets(
+    roster: &mut Roster,
+    unplaced: &Module,
+) -> Result<Option<FaultNumbers>, AllocError>
     requires { CanBeTaken unplaced.now }
     ensures ok { IfOk result (Meets roster.old unplaced.now) }
     ensures same { roster.new ≡ roster.old }

@@ -18,8 +18,8 @@ use cfi_modules::{first_global, loaded_have_entries};
 use cfi_plan::ModuleLine;
 use cfi_unit::Log;
 
-// The last policy that is logged.
-fn last_policy(log: &[Log]) -> u32
+/// The last policy that is logged.
+pub(crate) fn last_policy(log: &[Log]) -> u32
     ensures { result ≡ last_policy log.now }
 {
     let mut last = 0;
@@ -29,8 +29,8 @@ fn last_policy(log: &[Log]) -> u32
     last
 }
 
-// The next policy that is logged, or else the one in force.
-fn next_policy(force: u32, log: &[Log]) -> u32
+/// The next policy that is logged, or else the one in force.
+pub(crate) fn next_policy(force: u32, log: &[Log]) -> u32
     ensures { result ≡ next_policy force log.now }
 {
     for entry in log {

@@ -1,0 +1,35 @@
+-- The causes of opens and the logs of guests, one by one.
+use Rattle.std.specs.Prelude.{◌≡◌, ℕ, List, slice_get, Some}
+use Rattle.cfi_report.specs.declared.report.GuestPart.{GuestPart}
+use Rattle.cfi_unit.specs.declared.log.Log.{Log}
+use Rattle.cfi_unit.specs.declared.log.Log.TheVariants.{Cause}
+use Rattle.cfi_valid.specs.Course.{Course}
+use Rattle.cfi_valid.specs.Log.{IsCaused, IsLogged, why_of}
+use Rattle.cfi_valid.specs.Log as causes
+use Rattle.cfi_judge.specs.declared.judge.Why.{Why}
+use Rattle.cfi_judge.specs.declared.judge.Why.TheVariants.{NoModule, ModulesFull, NotPlaced, NotVerified, VersionsSpent, EpochsSpent, NoFunction, Unlogged}
+
+-- the cause that is meant: a case a cause
+abbrev pub meant : Why → causes.Why
+meant NoModule = causes.Why.NoModule
+meant ModulesFull = causes.Why.ModulesFull
+meant NotPlaced = causes.Why.NotPlaced
+meant NotVerified = causes.Why.NotVerified
+meant VersionsSpent = causes.Why.VersionsSpent
+meant EpochsSpent = causes.Why.EpochsSpent
+meant NoFunction = causes.Why.NoFunction
+meant Unlogged = causes.Why.Unlogged
+
+-- what the entry at a place says of a cause holds
+abbrev pub HasCause : Course → (guest : ℕ) → List Log → (at : ℕ) → Type 0
+HasCause c guest log at = (number cause : ℕ) → slice_get log at ≡ Some (Cause number cause)
+    → IsCaused c guest log at number (why_of cause)
+
+-- all do
+abbrev pub HasCauses : Course → (guest : ℕ) → List Log → Type 0
+HasCauses c guest log = (at : ℕ) → HasCause c guest log at
+
+-- the log of each part fits the run, by the place of the part
+abbrev pub AreLogged : Course → (parts : List GuestPart) → Type 0
+AreLogged c parts =
+    (number : ℕ) (part : GuestPart) → slice_get parts number ≡ Some part → IsLogged c number part.log

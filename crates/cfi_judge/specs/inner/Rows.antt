@@ -1,0 +1,34 @@
+-- Rows of meetings: while they are made, and what one of them says.
+use Rattle.std.specs.Prelude.{◌≡◌, ℕ, ◌+◌, ◌≤◌, List, length, slice_get, Option, Some, None}
+use Rattle.cfi_aux.specs.declared.modules.Module.{Module}
+use Rattle.cfi_modules.specs.declared.numbers.FaultNumbers.{FaultNumbers}
+use Rattle.cfi_modules.specs.declared.numbers.FaultNumbers.TheVariants.{Place, Verify}
+use Rattle.cfi_valid.specs.Journal.{JournalState}
+use Rattle.cfi_valid.specs.Loaded.{loaded_by}
+use Rattle.cfi_judge.specs.declared.rows.Meeting.{Meeting}
+use Rattle.cfi_judge.specs.declared.rows.Meeting.TheVariants.{Unplaced, Unverified, Joins}
+use Rattle.cfi_judge.specs.Rows.{IsRow}
+
+-- the meeting of these numbers of a fault, or of none: a case a fault
+abbrev pub meeting_of : Option FaultNumbers → Meeting
+meeting_of (Some (Place fault)) = Unplaced
+meeting_of (Some (Verify fault place)) = Unverified
+meeting_of None = Joins
+
+-- the row of the policy in force may still lack, which finds all loaded
+pub record LackLast (code_words : ℕ) (modules : List Module) (s : JournalState) (rows : List (List Meeting))
+    : Type 0 where
+  pub least : s.policy ≤ length rows
+  pub most : length rows ≤ s.policy + 1
+  pub each : (policy : ℕ) (row : List Meeting) → slice_get rows policy ≡ Some row
+      → IsRow code_words modules (loaded_by policy s.loaded) row
+  pub all : loaded_by s.policy s.loaded ≡ s.loaded
+
+-- the row of some policy between these says so of the module of a number
+pub record HasMeeting (least most : ℕ) (rows : List (List Meeting)) (number : ℕ) (meeting : Meeting) : Type 0 where
+  pub policy : ℕ
+  pub above : least ≤ policy
+  pub below : policy ≤ most
+  pub row : List Meeting
+  pub has : slice_get rows policy ≡ Some row
+  pub says : slice_get row number ≡ Some meeting
