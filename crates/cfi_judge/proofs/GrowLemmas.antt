@@ -28,9 +28,8 @@ use Rattle.cfi_judge.specs.declared.reached.Reached.{Reached}
 use Rattle.cfi_judge.specs.declared.rows.Meeting.{Meeting}
 use Rattle.cfi_judge.specs.Journal.{IsJournalFault}
 use Rattle.cfi_judge.specs.Reached.{StandsIn, state_of}
-use Rattle.cfi_judge.specs.Rows.{AreRows, IsRow}
+use Rattle.cfi_judge.specs.inner.Rows.{AreRows, IsRow, LackLast}
 use Rattle.cfi_judge.specs.inner.Lines.{IsEntryFault}
-use Rattle.cfi_judge.specs.inner.Rows.{LackLast}
 use Rattle.cfi_judge.specs.inner.Walk.{IsWalkFault, at_line}
 use Rattle.cfi_judge.proofs.WalkLemmas.{HasWalked, never_line, walk_next, walk_stopped}
 

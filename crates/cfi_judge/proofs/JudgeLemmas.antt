@@ -20,10 +20,9 @@ use Rattle.cfi_valid.specs.Joining.{HasFault, HasNoFault, IsUnloaded}
 use Rattle.cfi_valid.specs.Journal.{IsOutOfEpochs, JournalState}
 use Rattle.cfi_valid.specs.Loaded.{LoadedModule, loaded_by, placed_modules}
 use Rattle.cfi_valid.specs.Log.{IsCaused, IsInSpan, IsLogged, next_policy, why_of}
-use Rattle.cfi_judge.specs.Log.{HasRisen}
-use Rattle.cfi_judge.specs.Rows.{AreRows, IsMeeting}
+use Rattle.cfi_judge.specs.inner.Log.{HasRisen}
+use Rattle.cfi_judge.specs.inner.Rows.{AreRows, IsMeeting, HasMeeting}
 use Rattle.cfi_judge.specs.inner.Judge.{AreLogged, HasCause, HasCauses}
-use Rattle.cfi_judge.specs.inner.Rows.{HasMeeting}
 use Rattle.cfi_judge.specs.declared.rows.Meeting.{Meeting}
 use Rattle.cfi_judge.specs.declared.rows.Meeting.TheVariants.{Again, Full, Unplaced, Unverified, Joins as JoinsAll}
 use Rattle.cfi_judge.proofs.ItemLemmas.{found}

@@ -13,9 +13,8 @@ use Rattle.cfi_modules.specs.declared.numbers.FaultNumbers.TheVariants.{Place, V
 use Rattle.cfi_valid.specs.Journal.{JournalState}
 use Rattle.cfi_valid.specs.Loaded.{LoadedModule, loaded_by}
 use Rattle.cfi_judge.specs.Reached.{IsLined}
-use Rattle.cfi_judge.specs.Rows.{AreRows, IsMeeting, IsRow}
+use Rattle.cfi_judge.specs.inner.Rows.{AreRows, IsMeeting, IsRow, LackLast, meeting_of}
 use Rattle.cfi_judge.specs.inner.Meets.{Meets}
-use Rattle.cfi_judge.specs.inner.Rows.{LackLast, meeting_of}
 use Rattle.cfi_judge.specs.declared.rows.Meeting.{Meeting}
 use Rattle.cfi_judge.specs.declared.rows.Meeting.TheVariants.{Again}
 use Rattle.cfi_judge.proofs.MeetingLemmas.{has_fault, has_none, is_listed, unloaded}

@@ -2,7 +2,5 @@ pub mod Guests
 pub mod Reached
 pub mod Journal
 pub mod Steps
-pub mod Log
-pub mod Rows
-pub mod Judge
+pub mod Logs
 pub mod inner

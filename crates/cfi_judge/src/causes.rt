@@ -67,7 +67,7 @@ fn count_logged(number: u32, log: &[Log]) -> usize
 
 /// Whether the journal has as many lines of the guest's loads of a module that came too many versions ahead as its log
 /// has such opens of it.
-pub fn versions_are_told(guest: u32, number: u32, log: &[Log], journal: &[Entry]) -> bool
+pub(crate) fn versions_are_told(guest: u32, number: u32, log: &[Log], journal: &[Entry]) -> bool
     ensures { IsTrue result ↔ (count_by (is_too_old number) log.now
         ≤ count_by (is_versions guest number) journal.now) }
 {

@@ -1,13 +1,11 @@
 //! The log of a guest, with the causes of its opens.
 
 ghost use Rattle.std.specs.Prelude.{◌≡◌, ◌↔◌, ◌<◌, ◌≤◌, IsTrue, Some, ℕ, length, slice_get};
-ghost use Rattle.cfi_judge.specs.Judge.{IsJudge, course_in};
-ghost use Rattle.cfi_judge.specs.Log.{HasRisen};
-ghost use Rattle.cfi_judge.specs.Rows.{IsMeeting};
-ghost use Rattle.cfi_judge.specs.inner.Judge.{AreLogged, HasCause, HasCauses, meant};
-ghost use Rattle.cfi_judge.specs.inner.Rows.{HasMeeting};
+ghost use Rattle.cfi_judge.specs.inner.Judge.{IsJudge, course_in, AreLogged, HasCause, HasCauses, meant};
+ghost use Rattle.cfi_judge.specs.inner.Log.{HasRisen};
+ghost use Rattle.cfi_judge.specs.inner.Rows.{IsMeeting, HasMeeting};
 ghost use Rattle.cfi_valid.specs.Log.{EpochsSpent, HoldsInSpan, IsCaused, IsLogged, why_of};
-ghost use Rattle.cfi_valid.specs.Valid.{HasGuests, OfEach};
+ghost use Rattle.cfi_valid.specs.Valid.{OfEach};
 ghost use Rattle.cfi_word.specs.declared.limits.TheConstants.{GUESTS};
 
 use crate::causes::versions_are_told;
@@ -169,8 +167,8 @@ impl Judge<'_> {
         true
     }
 
-    /// Whether the log of the guest of a number fits the run.
-    pub fn is_logged(&self, guest: u32, log: &[Log]) -> bool
+    // The log of the guest of a number fits the run.
+    fn is_logged(&self, guest: u32, log: &[Log]) -> bool
         requires { IsJudge self.now }
         ensures { IsTrue result ↔ IsLogged (course_in self.now) guest log.now }
     {
@@ -178,6 +176,7 @@ impl Judge<'_> {
             && log_opens(&self.end.roster, log)
             && self.has_causes(guest, log)
     }
+
     // The log of the part of a number does.
     fn is_part_logged(&self, number: usize, part: &GuestPart) -> bool
         requires judge { IsJudge self.now }
@@ -202,9 +201,9 @@ impl Judge<'_> {
     }
 
     /// Whether the log of each guest of the report fits the run.
-    pub fn are_logged(&self) -> bool
+    pub(crate) fn are_logged(&self) -> bool
         requires judge { IsJudge self.now }
-        requires guests { HasGuests (course_in self.now) self.now.report.now }
+        requires few { length self.now.report.now.guests ≤ GUESTS }
         ensures { IsTrue result ↔ OfEach self.now.report.now (λ number part.
             IsLogged (course_in self.now) number part.log) }
     {

@@ -1,8 +1,7 @@
 //! The log of a guest, but for the causes of its opens.
 
 ghost use Rattle.std.specs.Prelude.{◌≡◌, ◌↔◌, IsTrue};
-ghost use Rattle.cfi_judge.specs.Log.{HasOpens, HasRisen};
-ghost use Rattle.cfi_judge.specs.inner.Log.{HasOpen, IsThere};
+ghost use Rattle.cfi_judge.specs.inner.Log.{HasOpens, HasRisen, HasOpen, IsThere};
 ghost use Rattle.cfi_judge.specs.Reached.{IsLined};
 ghost use Rattle.cfi_ledger.specs.Roster.{loaded_in_roster};
 ghost use Rattle.cfi_model.specs.Log.{policy_after};
@@ -28,7 +27,7 @@ pub(crate) fn policy_after(before: u32, entry: &Log) -> u32
 }
 
 /// Whether the policies of a log never fall, and none is above the one in force.
-pub fn log_rises(force: u32, log: &[Log]) -> bool
+pub(crate) fn log_rises(force: u32, log: &[Log]) -> bool
     ensures { IsTrue result ↔ HasRisen force log.now }
 {
     let mut before = 0;
@@ -94,7 +93,7 @@ fn is_opened(roster: &Roster, entry: &Log) -> bool
 }
 
 /// Whether each module that a log says was opened is loaded by the policy of its entry, where the log says.
-pub fn log_opens(roster: &Roster, log: &[Log]) -> bool
+pub(crate) fn log_opens(roster: &Roster, log: &[Log]) -> bool
     requires { IsLined roster.now }
     ensures { IsTrue result ↔ HasOpens (loaded_in_roster roster.now) log.now }
 {

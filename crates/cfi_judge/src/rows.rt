@@ -3,8 +3,7 @@
 ghost use Rattle.std.specs.Prelude.{◌≡◌, ◌<◌, ◌≤◌, All, IfErr, IfOk, ℕ, length};
 ghost use Rattle.cfi_judge.specs.Journal.{IsJournalFault};
 ghost use Rattle.cfi_judge.specs.Reached.{IsLined, StandsIn, state_of};
-ghost use Rattle.cfi_judge.specs.Rows.{AreRows, IsMeeting, IsRow};
-ghost use Rattle.cfi_judge.specs.inner.Rows.{LackLast, meeting_of};
+ghost use Rattle.cfi_judge.specs.inner.Rows.{AreRows, IsMeeting, IsRow, LackLast, meeting_of};
 ghost use Rattle.cfi_judge.specs.inner.Walk.{IsWalkFault};
 ghost use Rattle.cfi_judge.specs.declared.fault.JournalFault.TheVariants.{Line};
 ghost use Rattle.cfi_ledger.specs.Plans.{CanStart};
@@ -149,7 +148,7 @@ fn rows_along(
 /// are legal; else the first that is not.
 ///
 /// `roster` has the start modules of the plan, and `modules` are those of the plan, one a line.
-pub fn meetings(
+pub(crate) fn meetings(
     alloc: Global,
     plan: &Plan,
     modules: &[Module],

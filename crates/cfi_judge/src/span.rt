@@ -89,7 +89,7 @@ fn lacks_by(roster: &Roster, number: u32, least: u32, most: u32) -> bool
 
 /// Whether some policy of the span of the entry at a place of a log finds a module of this number loaded that has no
 /// Global function.
-pub fn lacks_function(end: &Reached, log: &[Log], at: usize, number: u32) -> bool
+pub(crate) fn lacks_function(end: &Reached, log: &[Log], at: usize, number: u32) -> bool
     requires lined { IsLined end.now.roster }
     requires within { at < length log.now }
     ensures { (c : Course) → c.end ≡ state_of end.now → IsTrue result ↔ HoldsInSpan

@@ -1,13 +1,31 @@
--- The causes of opens and the logs of guests, one by one.
+-- Against what the logs of a report are judged.
+use Rattle.cfi_valid.specs.Course.{Course}
+use Rattle.cfi_valid.specs.Valid.{HasJournal, course_of}
+use Rattle.cfi_ledger.specs.Plans.{CanStart}
+use Rattle.cfi_judge.specs.Reached.{StandsIn, state_of}
+use Rattle.cfi_judge.specs.inner.Rows.{AreRows}
+use Rattle.cfi_judge.specs.declared.judge.Judge.{Judge}
 use Rattle.std.specs.Prelude.{◌≡◌, ℕ, List, slice_get, Some}
 use Rattle.cfi_report.specs.declared.report.GuestPart.{GuestPart}
 use Rattle.cfi_unit.specs.declared.log.Log.{Log}
 use Rattle.cfi_unit.specs.declared.log.Log.TheVariants.{Cause}
-use Rattle.cfi_valid.specs.Course.{Course}
 use Rattle.cfi_valid.specs.Log.{IsCaused, IsLogged, why_of}
 use Rattle.cfi_valid.specs.Log as causes
 use Rattle.cfi_judge.specs.declared.judge.Why.{Why}
 use Rattle.cfi_judge.specs.declared.judge.Why.TheVariants.{NoModule, ModulesFull, NotPlaced, NotVerified, VersionsSpent, EpochsSpent, NoFunction, Unlogged}
+
+-- the course that the report tells
+abbrev pub course_in : Judge → Course
+course_in j = course_of j.plan.now j.modules.now j.report.now (state_of j.end.now)
+
+-- the journal of the report leads to the state, and the rows are its own
+pub record IsJudge (j : Judge) : Type 0 where
+  pub can : CanStart j.plan.now j.modules.now
+  pub stands : StandsIn j.plan.now j.end.now
+  pub journal : HasJournal j.plan.now j.modules.now j.report.now (state_of j.end.now)
+  pub rows : AreRows j.plan.now.code_words j.modules.now (state_of j.end.now) j.rows.now
+
+-- ---- the causes of opens and the logs of guests, one by one
 
 -- the cause that is meant: a case a cause
 abbrev pub meant : Why → causes.Why

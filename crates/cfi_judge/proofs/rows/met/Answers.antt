@@ -1,6 +1,6 @@
 use Rattle.std.proofs.Common.{sym, subst}
 use Rattle.cfi_ledger.specs.Roster.{loaded_in_roster}
-use Rattle.cfi_judge.specs.Rows.{IsMeeting}
+use Rattle.cfi_judge.specs.inner.Rows.{IsMeeting}
 use Rattle.cfi_judge.specs.declared.rows.Meeting.{Meeting}
 use Rattle.cfi_judge.proofs.ItemLemmas.{item_there}
 use Rattle.cfi_judge.proofs.MeetingLemmas.{full}

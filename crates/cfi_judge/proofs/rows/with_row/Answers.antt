@@ -1,6 +1,6 @@
 use Rattle.std.proofs.Common.{List, sym, subst, arith}
 use Rattle.cfi_judge.specs.Reached.{state_of}
-use Rattle.cfi_judge.specs.Rows.{AreRows}
+use Rattle.cfi_judge.specs.inner.Rows.{AreRows}
 use Rattle.cfi_judge.specs.declared.rows.Meeting.{Meeting}
 use Rattle.cfi_judge.proofs.RowLemmas.{rows_last}
 use Rattle.cfi_judge.proofs.rows.with_row.Goals as goal

@@ -1,4 +1,4 @@
-use Rattle.cfi_judge.specs.Judge.{course_in}
+use Rattle.cfi_judge.specs.inner.Judge.{course_in}
 use Rattle.cfi_judge.proofs.JudgeLemmas.{logs_told}
 use Rattle.cfi_judge.proofs.judge.Judge.are_logged.Goals as goal
 

@@ -2,7 +2,7 @@ use Rattle.std.proofs.Common.{Some, ap, ◌∙◌}
 use Rattle.std.proofs.lemmas.Option.{slice_get-get_or}
 use Rattle.cfi_unit.specs.declared.log.Log.{Log}
 use Rattle.cfi_unit.specs.declared.log.Log.TheVariants.{Pick}
-use Rattle.cfi_judge.specs.Judge.{course_in}
+use Rattle.cfi_judge.specs.inner.Judge.{course_in}
 use Rattle.cfi_judge.proofs.JudgeLemmas.{cause_told}
 use Rattle.cfi_judge.proofs.judge.Judge.has_cause.Goals as goal
 

@@ -1,5 +1,4 @@
-use Rattle.cfi_judge.specs.Judge.{course_in}
-use Rattle.cfi_judge.specs.inner.Judge.{HasCauses}
+use Rattle.cfi_judge.specs.inner.Judge.{course_in, HasCauses}
 use Rattle.cfi_judge.proofs.JudgeLemmas.{causes_all, causes_next}
 use Rattle.cfi_judge.proofs.YesLemmas.{not_answered, refuted, yes}
 use Rattle.cfi_judge.proofs.judge.Judge.has_causes.Goals as goal

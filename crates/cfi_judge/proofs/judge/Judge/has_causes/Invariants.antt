@@ -1,6 +1,5 @@
 use Rattle.std.specs.Prelude.{ℕ, ◌<◌}
-use Rattle.cfi_judge.specs.Judge.{course_in}
-use Rattle.cfi_judge.specs.inner.Judge.{HasCause}
+use Rattle.cfi_judge.specs.inner.Judge.{course_in, HasCause}
 use Rattle.cfi_judge.proofs.judge.Judge.has_causes.Given as goal
 
 -- the causes so far hold

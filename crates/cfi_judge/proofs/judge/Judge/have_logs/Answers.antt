@@ -1,5 +1,4 @@
-use Rattle.cfi_judge.specs.Judge.{course_in}
-use Rattle.cfi_judge.specs.inner.Judge.{AreLogged}
+use Rattle.cfi_judge.specs.inner.Judge.{course_in, AreLogged}
 use Rattle.cfi_judge.proofs.ItemLemmas.{item_there}
 use Rattle.cfi_judge.proofs.JudgeLemmas.{logged_all, logged_next}
 use Rattle.cfi_judge.proofs.YesLemmas.{yes}

@@ -1,8 +1,7 @@
 use Rattle.std.proofs.Common.{◌≡◌, refl, sym, ap, subst, ◌∙◌}
 use Rattle.std.specs.Prelude.{◌↔◌, IsTrue}
 use Rattle.cfi_valid.specs.Log.{EpochsSpent, IsCaused, NoFunction, Why, why_of}
-use Rattle.cfi_judge.specs.Judge.{course_in}
-use Rattle.cfi_judge.specs.inner.Judge.{meant}
+use Rattle.cfi_judge.specs.inner.Judge.{course_in, meant}
 use Rattle.cfi_judge.proofs.judge.Judge.is_caused.Goals as goal
 
 pub returns-in-NoFunction : goal.returns-in-NoFunction
