@@ -13,14 +13,9 @@ code = 111 ∷ []
 
 pub can_run : (policy : ℕ) → policy ≤ MAX_POLICY → CanRun code policy (plain_opened 0 0 [])
 can_run policy most = record {
-  going = refl;
-  idle = refl;
-  aligned = refl;
+  can = record { going = refl; idle = refl; rises = omega arith; most = most; few = omega arith };
   unit = units.Jump false (pos 0);
-  begins = record { fits = (omega arith, refl); spelled = refl };
-  rises = omega arith;
-  most = most;
-  few = omega arith;
+  stands = record { aligned = refl; begins = record { fits = (omega arith, refl); spelled = refl } };
 }
 
 -- an answer without data

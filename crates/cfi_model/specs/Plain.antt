@@ -1,12 +1,11 @@
 -- The policy machine as a program runs it: a state between two units, or one that waits for the answer to an open.
-use Rattle.std.specs.Prelude.{◌≡◌, ℕ, ◌+◌, ◌*◌, ◌/◌, ◌%◌, ◌^◌, ◌≤◌, ◌<◌, Bool, true, false, if◌then◌else◌, List, Option, Some, None}
+use Rattle.std.specs.Prelude.{◌≡◌, ℕ, ◌+◌, ◌*◌, ◌/◌, ◌^◌, ◌≤◌, ◌<◌, ◌==◌, ◌&&◌, nat_lt, Bool, true, false, if◌then◌else◌, List, length, slice_index, Option, Some, None}
 use Rattle.cfi_unit.specs.declared.unit.Unit.{Unit as CodeUnit}
 use Rattle.cfi_unit.specs.declared.unit.Unit.TheVariants as units
 use Rattle.cfi_unit.specs.declared.fill.Fill.{Fill}
 use Rattle.cfi_unit.specs.declared.log.Log.{Log}
 use Rattle.cfi_unit.specs.declared.log.Stop.{Stop}
-use Rattle.cfi_unit.specs.Code.{BeginsAt}
-use Rattle.cfi_word.specs.declared.lists.Edge.{Edge}
+use Rattle.cfi_word.specs.declared.lists.Labels.{Labels}
 use Rattle.cfi_model.specs.declared.step.PlainStep.{PlainStep}
 use Rattle.cfi_model.specs.declared.step.PlainStep.TheVariants.{Went, Asks, Stopped}
 use Rattle.cfi_word.specs.declared.limits.TheConstants.{MAX_OPENS, MAX_POLICY}
@@ -15,7 +14,8 @@ use Rattle.cfi_model.specs.Data.{LiesInData}
 use Rattle.cfi_model.specs.Log.{last_policy, last_picks, opens}
 use Rattle.cfi_model.specs.State.{State, opened, after}
 use Rattle.cfi_model.specs.Service.{Reply, Opens, served, argument, too_many}
-use Rattle.cfi_model.specs.Effect.{effect, allows_by, asks, going_to}
+use Rattle.cfi_model.specs.Effect.{effect, asks, going_to}
+use Rattle.cfi_model.specs.Shows.{Stands}
 use Rattle.cfi_word.specs.declared.sizes.TheConstants.{FORBIDDEN_STEPS}
 
 -- a state, and whether it waits for an answer
@@ -32,12 +32,19 @@ abbrev pub asks_of : CodeUnit → State → Bool
 asks_of units.Service s = asks s
 asks_of _ s = false
 
--- what a unit makes of the machine, under one policy and its pairs: an open first waits for its answer
-abbrev pub unit_of : CodeUnit → (policy : ℕ) → List Edge → PlainState → PlainState
-unit_of unit policy pairs m =
+-- a slot and an address have one class: each has a place, and the numbers there are equal
+abbrev pub has_one_class : Labels → (slot target : ℕ) → Bool
+has_one_class labels slot target =
+    nat_lt slot (length labels.bary) && nat_lt (target / 4) (length labels.tary)
+    && (slice_index labels.bary slot == slice_index labels.tary (target / 4))
+
+-- what a unit makes of the machine, under one policy, which allows these targets of slots: an open first waits for its
+-- answer
+abbrev pub unit_of : CodeUnit → (policy : ℕ) → (allows : ℕ → ℕ → Bool) → PlainState → PlainState
+unit_of unit policy allows m =
     if asks_of unit m.state
     then record m { waits = true }
-    else record m { state = effect unit policy (allows_by pairs) too_many m.state }
+    else record m { state = effect unit policy allows too_many m.state }
 
 -- how a unit ended, by the machine after it
 abbrev pub ended_by : Option Stop → PlainStep
@@ -55,16 +62,27 @@ answered reply m = record {
   waits = false;
 }
 
--- a unit can be run: it runs none, and one begins at its address
-pub record CanRun (code : List ℕ) (policy : ℕ) (m : PlainState) : Type 0 where
+-- a unit may be run where one begins: the machine runs none, and its log can take the policy
+pub record CanTurn (policy : ℕ) (m : PlainState) : Type 0 where
   pub going : m.state.stop ≡ None
   pub idle : m.waits ≡ false
-  pub aligned : m.state.pc % 4 ≡ 0
-  pub unit : CodeUnit
-  pub begins : BeginsAt code (m.state.pc / 4) unit
   pub rises : last_policy m.state.log ≤ policy
   pub most : policy ≤ MAX_POLICY
   pub few : m.state.units + 1 < 2 ^ 32
+
+-- a unit can be run: one begins at its address
+pub record CanRun (code : List ℕ) (policy : ℕ) (m : PlainState) : Type 0 where
+  pub can : CanTurn policy m
+  pub unit : CodeUnit
+  pub stands : Stands code m.state.pc unit
+
+-- the unit that begins at the machine's address is run, under a policy that allows these targets of slots
+pub record IsTurn (code : List ℕ) (policy : ℕ) (allows : ℕ → ℕ → Bool) (old new : PlainState) (step : PlainStep)
+    : Type 0 where
+  pub unit : CodeUnit
+  pub stands : Stands code old.state.pc unit
+  pub is : new ≡ unit_of unit policy allows old
+  pub step_is : step ≡ step_of new
 
 -- an answer that a machine may get: its policy does not fall, and its fills lie inside private data
 pub record CanEnd (reply : Reply) (m : PlainState) : Type 0 where

@@ -1,4 +1,4 @@
-ghost use Rattle.std.specs.Prelude.{◌≡◌, ℕ, ◌+◌, ◌<◌, ◌≤◌, ◌^◌, ◌/◌, ◌%◌, IfOk, IsTrue, None, if◌then◌else◌, length};
+ghost use Rattle.std.specs.Prelude.{◌≡◌, ℕ, ◌+◌, ◌<◌, ◌≤◌, ◌^◌, ◌/◌, ◌%◌, IfNone, IfOk, IfSome, IsTrue, None, Some, if◌then◌else◌, length};
 ghost use Rattle.std.specs.List.{All};
 ghost use Rattle.cfi_unit.specs.declared.unit.Unit.{Unit as CodeUnit};
 ghost use Rattle.cfi_unit.specs.Code.{BeginsAt};
@@ -10,15 +10,17 @@ ghost use Rattle.cfi_unit.specs.declared.unit.TheConstants.{FREE_REGISTERS};
 use crate::log_book::LogBook;
 use crate::output::Output;
 use crate::pages::PrivateData;
+use crate::plain::pairs::Pairs;
 use crate::step::PlainStep;
 use cfi_unit::laws::unit_within;
 use cfi_unit::{Answer, FREE_REGISTERS, Fill, Log, Stop, Unit, next_unit};
-use cfi_word::Edge;
 use cfi_word::map::STACK;
 use cfi_word::services::ARGUMENT;
+use cfi_word::{Edge, Labels};
 use std::alloc::{AllocError, Global};
 use std::marker::Model;
 
+mod pairs;
 mod services;
 mod units;
 
@@ -64,7 +66,10 @@ impl Model for Plain {
 impl Plain {
     ghost use Rattle.cfi_model.specs.State.{register};
     ghost use Rattle.cfi_model.specs.Service.{reply_of, argument};
-    ghost use Rattle.cfi_model.specs.Plain.{PlainState, plain_opened, CanRun, CanEnd, unit_of, step_of, answered};
+    ghost use Rattle.cfi_model.specs.Plain.{PlainState, plain_opened, CanRun, CanTurn, CanEnd, IsTurn};
+    ghost use Rattle.cfi_model.specs.Plain.{has_one_class, unit_of, step_of, answered};
+    ghost use Rattle.cfi_model.specs.Effect.{allows_by};
+    ghost use Rattle.cfi_model.specs.Shows.{Stands};
 
     /// Opens a guest of this number at this address, with fills inside private data.
     ///
@@ -99,15 +104,50 @@ impl Plain {
     pub fn unit(&mut self, code: &[u32], policy: u32, allowed: &[Edge]) -> PlainStep
         requires { CanRun code.now policy self.old }
         ensures state { (unit : CodeUnit) → BeginsAt code.now (self.old.state.pc / 4) unit
-            → self.new ≡ unit_of unit policy allowed.now self.old }
+            → self.new ≡ unit_of unit policy (allows_by allowed.now) self.old }
         ensures step { result ≡ step_of self.new }
     {
-        unit_within();
-        let Some((unit, _)) = next_unit(code, self.pc / 4) else {
+        let Some(unit) = self.next(code) else {
             unreachable!();
         };
-        self.run(unit, policy, allowed);
+        self.run(unit, policy, Pairs::Listed(allowed));
         self.step()
+    }
+
+    /// Runs the unit of `code` at `pc` under one policy, whose pairs are those of one class in `labels`.
+    ///
+    /// `code` is by word, from address 0. The policy is at most `MAX_POLICY` and not below the last one that is
+    /// logged. The guest has not stopped, waits for nothing, and has run fewer than 2^32 - 1 units. `None` exactly
+    /// where no unit begins at `pc`, and then nothing has changed.
+    pub fn turn(&mut self, code: &[u32], policy: u32, labels: &Labels) -> Option<PlainStep>
+        requires { CanTurn policy self.old }
+        ensures some { IfSome result
+            (IsTurn code.now policy (has_one_class labels.now) self.old self.new) }
+        ensures none { IfNone result
+            ((unit : CodeUnit) → ¬ Stands code.now self.old.state.pc unit) }
+        ensures same { IfNone result (self.new ≡ self.old) }
+    {
+        let unit = self.next(code)?;
+        self.run(unit, policy, Pairs::OneClass(labels));
+        Some(self.step())
+    }
+
+    // The unit at which it stands.
+    fn next(&self, code: &[u32]) -> Option<Unit>
+        ensures some { IfSome result (Stands code.now self.now.state.pc) }
+        ensures only { (unit : CodeUnit) → Stands code.now self.now.state.pc unit
+            → result ≡ Some unit }
+    {
+        unit_within();
+        if self.pc % 4 != 0 {
+            return None;
+        }
+        let at = self.pc / 4;
+        if at as usize > code.len() {
+            return None;
+        }
+        let (unit, _) = next_unit(code, at)?;
+        Some(unit)
     }
 
     // How the last unit ended.

@@ -1,6 +1,6 @@
 // What the services do.
 
-ghost use Rattle.std.specs.Prelude.{◌≡◌, ◌+◌, ◌<◌, ◌≤◌, ◌^◌, IsTrue, true, false, nat_lt, [], if◌then◌else◌};
+ghost use Rattle.std.specs.Prelude.{◌≡◌, ◌+◌, ◌<◌, ◌≤◌, ◌^◌, IsTrue, true, false, nat_lt, if◌then◌else◌};
 ghost use Rattle.cfi_unit.specs.declared.unit.Unit.TheVariants as units;
 ghost use Rattle.cfi_model.specs.State.{after};
 ghost use Rattle.cfi_model.specs.Service.{IsAnswer, Service, Ends, Puts, Quiets, Opens, Unknown, served, reply_of, too_many};
@@ -19,7 +19,7 @@ impl Plain {
     pub(crate) fn service(&mut self)
         requires going { self.old.waits ≡ false }
         requires few { self.old.state.units + 1 < 2 ^ 32 }
-        ensures { self.new ≡ unit_of units.Service 0 [] self.old }
+        ensures { self.new ≡ unit_of units.Service 0 (λ slot target. false) self.old }
     {
         match self.register(SERVICE) {
             EXIT => self.exit(),

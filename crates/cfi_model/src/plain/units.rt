@@ -7,15 +7,16 @@ ghost use Rattle.cfi_model.specs.Data.{load_width, store_width, loaded};
 ghost use Rattle.cfi_model.specs.Pages.{memory_stored};
 ghost use Rattle.cfi_model.specs.Log.{last_policy};
 ghost use Rattle.cfi_model.specs.State.{regs_with, register, displaced, after};
-ghost use Rattle.cfi_model.specs.Effect.{going_to, plain_regs, masked_at, load_effect, store_effect, checked, allows_by, accessed};
+ghost use Rattle.cfi_model.specs.Effect.{going_to, plain_regs, masked_at, load_effect, store_effect, checked, accessed};
 ghost use Rattle.cfi_model.specs.Plain.{unit_of};
+ghost use Rattle.cfi_model.specs.inner.Pairs.{allows_in};
 ghost use Rattle.cfi_word.specs.declared.map.TheConstants.{DATA_BYTES};
 ghost use Rattle.cfi_word.specs.declared.limits.TheConstants.{MAX_POLICY};
 
 use crate::data::{load_width, store_width};
 use crate::plain::Plain;
+use crate::plain::pairs::Pairs;
 use cfi_unit::{FREE_REGISTERS, Stop, Unit};
-use cfi_word::Edge;
 use cfi_word::map::{CODE_BYTES, DATA_BYTES, DATA_START};
 use cfi_word::sizes::{
     ACCESS_WORDS, CHECK_WORDS, FORBIDDEN_STEPS, MISALIGNED_STEPS, OUTSIDE_STEPS, PASSED_STEPS,
@@ -33,24 +34,15 @@ fn write(regs: &mut [u32; FREE_REGISTERS as usize], k: u32, value: u32)
     }
 }
 
-// Whether the list has the pair.
-fn allows(pairs: &[Edge], slot: u32, target: u32) -> bool
-    ensures { result ≡ allows_by pairs.now slot target }
-{
-    pairs
-        .iter()
-        .any(|pair| pair.branch == slot && pair.target == target)
-}
-
 impl Plain {
     // Runs a unit.
-    pub(crate) fn run(&mut self, unit: Unit, policy: u32, allowed: &[Edge])
+    pub(crate) fn run(&mut self, unit: Unit, policy: u32, pairs: Pairs<'_>)
         requires unit { IsUnit unit }
         requires going { self.old.waits ≡ false }
         requires rises { last_policy self.old.state.log ≤ policy }
         requires most { policy ≤ MAX_POLICY }
         requires few { self.old.state.units + 1 < 2 ^ 32 }
-        ensures { self.new ≡ unit_of unit policy allowed.now self.old }
+        ensures { self.new ≡ unit_of unit policy (allows_in pairs.entry) self.old }
     {
         match unit {
             Unit::Plain(insn) => self.compute(insn),
@@ -82,7 +74,7 @@ impl Plain {
                 slot,
             } => {
                 let target = self.register(rs1).wrapping_add_signed(imm);
-                let allowed = allows(allowed, slot, target);
+                let allowed = pairs.allow(slot, target);
                 self.check(link, target, policy, allowed);
             }
             Unit::Service => self.service(),
