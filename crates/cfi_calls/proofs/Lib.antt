@@ -1,1 +1,2 @@
 pub mod HandMadeLemmas
+pub mod RunLemmas

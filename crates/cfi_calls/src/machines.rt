@@ -8,6 +8,7 @@ use cfi_unit::next_unit;
 use cfi_word::Edge;
 
 // Runs the unit at pc, where one can be run, under the policy 255.
+#[tactic(auto, using(crate::proofs::RunLemmas::can_run))]
 fn turn(m: &mut Plain, code: &[u32], allowed: &[Edge]) -> Option<PlainStep> {
     let pc = m.pc();
     if m.stop().is_some() || m.waits() || pc % 4 != 0 || m.units() == u32::MAX {

@@ -9,6 +9,7 @@
 mod classes;
 mod flows;
 mod guests;
+mod imports;
 mod instructions;
 mod machines;
 mod made;
@@ -95,6 +96,7 @@ fn tell_policies(rt: &HostRuntime, alloc: Global) -> io::Result<()> {
     tell(rt, "a book of modules", policies::book(alloc)?)?;
     tell(rt, "first users", retiring::users(alloc)?)?;
     tell(rt, "live modules", retiring::live(alloc)?)?;
+    tell(rt, "a cell of no function", imports::lost(alloc)?)?;
     tell(rt, "turns of a world", worlds::turns(alloc)?)
 }
 

@@ -3,7 +3,7 @@ use Rattle.std.proofs.Common.{◌≡◌, ◌⊎◌, ◌∙◌, ℕ, zero, suc, �
 use Rattle.std.specs.Prelude.{slice_get}
 use Rattle.std.specs.Option.{option_or}
 use Rattle.std.proofs.lemmas.Option.{none-some, same_Some}
-use Rattle.cfi_graph.specs.inner.Imports.{first_given}
+use Rattle.cfi_graph.specs.Named.{first_given}
 
 -- the item of this place gives the number, and none before it gives one
 pub record IsFirstGiven {X : Type 0} (gives : X → Option ℕ) (xs : List X) (n : ℕ) : Type 0 where

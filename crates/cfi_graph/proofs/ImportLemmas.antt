@@ -12,7 +12,7 @@ use Rattle.cfi_graph.specs.Code.{entry_of}
 use Rattle.cfi_graph.specs.Calls.{IsGlobalNamed, IsImported}
 use Rattle.cfi_graph.specs.Direct.{IsImportTarget}
 use Rattle.cfi_graph.specs.Facts.{ByName, AreImports, function_node, word_of}
-use Rattle.cfi_graph.specs.inner.Imports.{entry_by, entry_in, entry_among}
+use Rattle.cfi_graph.specs.Named.{entry_by, entry_in, entry_among}
 use Rattle.cfi_graph.proofs.BoundLemmas.{contains_at, at_contains}
 use Rattle.cfi_graph.proofs.FirstLemmas.{or_none, none_or_some, first_found, first_is, none_given}
 use Rattle.cfi_graph.proofs.NodeLemmas.{StandsAt}

@@ -18,6 +18,7 @@ mod GoesLemmas
 mod ReturnLemmas
 mod SoundLemmas
 mod DirectLemmas
+mod CellLemmas
 mod ClassLemmas
 mod BelowLemmas
 mod FlowLemmas

@@ -12,7 +12,7 @@ use Rattle.cfi_aux.specs.declared.records.Kind.TheVariants.{Import}
 use Rattle.cfi_graph.specs.declared.names.Names.{Names}
 use Rattle.cfi_graph.specs.Code.{entry_of}
 use Rattle.cfi_graph.specs.Facts.{ByName}
-use Rattle.cfi_graph.specs.inner.Imports.{entry_by}
+use Rattle.cfi_graph.specs.Named.{entry_by}
 use Rattle.cfi_graph.specs.inner.Names.{has_name, Keeps, HasImports, HasMet}
 use Rattle.cfi_graph.proofs.BoundLemmas.{at_contains}
 

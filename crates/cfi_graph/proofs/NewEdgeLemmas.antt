@@ -17,7 +17,7 @@ use Rattle.cfi_graph.specs.Reading.{CanAllBeRead}
 use Rattle.cfi_graph.specs.NewEdges.{AreNewEdges}
 use Rattle.cfi_graph.specs.inner.Flows.{IsFlowOf}
 use Rattle.cfi_graph.specs.inner.NewEdges.{HaveFlows}
-use Rattle.cfi_graph.specs.inner.Imports.{entry_in, entry_among}
+use Rattle.cfi_graph.specs.Named.{entry_in, entry_among}
 use Rattle.cfi_graph.proofs.DirectLemmas.{direct_goes}
 use Rattle.cfi_graph.proofs.FirstLemmas.{first_push}
 use Rattle.cfi_graph.proofs.ImportLemmas.{are_imports}

@@ -3,6 +3,8 @@ pub mod Shaped
 pub mod Calls
 pub mod Direct
 pub mod Live
+pub mod Named
+pub mod Cell
 pub mod Facts
 pub mod Links
 pub mod Reading

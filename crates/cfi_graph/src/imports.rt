@@ -6,7 +6,8 @@ ghost use Rattle.std.specs.Option.{option_or};
 ghost use Rattle.std.specs.Str.{bytes_eq};
 ghost use Rattle.cfi_graph.specs.Facts.{AreImports};
 ghost use Rattle.cfi_graph.specs.Shaped.{IsShaped};
-ghost use Rattle.cfi_graph.specs.inner.Imports.{imports_in, entry_by, entry_in, entry_among};
+ghost use Rattle.cfi_graph.specs.Named.{entry_by, entry_in, entry_among};
+ghost use Rattle.cfi_graph.specs.inner.Imports.{imports_in};
 ghost use Rattle.cfi_graph.specs.inner.Names.{has_name};
 
 use crate::names::Names;

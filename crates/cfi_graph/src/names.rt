@@ -4,7 +4,8 @@ ghost use Rattle.std.specs.Prelude.{◌≡◌, ℕ, true, List, Some, IsTrue, If
 ghost use Rattle.std.specs.List.{Contains};
 ghost use Rattle.cfi_aux.specs.declared.placed.Placed.{Placed as PlacedModule};
 ghost use Rattle.cfi_aux.specs.declared.records.Kind.TheVariants.{Import};
-ghost use Rattle.cfi_graph.specs.inner.Imports.{imports_in, entry_in};
+ghost use Rattle.cfi_graph.specs.Named.{entry_in};
+ghost use Rattle.cfi_graph.specs.inner.Imports.{imports_in};
 ghost use Rattle.cfi_graph.specs.inner.Names.{has_name, AreMarked, Keeps, HasImports, HasMet};
 
 use crate::imports::Imports;

@@ -2,7 +2,7 @@ use Rattle.std.proofs.Common.{◌≡◌, ◌∙◌, length, take, sym, ap, subst
 use Rattle.std.proofs.Math.Seq.{take-length}
 use Rattle.std.specs.Option.{option_or}
 use Rattle.cfi_graph.specs.Shaped.{IsShaped}
-use Rattle.cfi_graph.specs.inner.Imports.{entry_in, entry_among}
+use Rattle.cfi_graph.specs.Named.{entry_in, entry_among}
 use Rattle.cfi_graph.proofs.FirstLemmas.{first_more}
 use Rattle.cfi_graph.proofs.imports.imports_named.Goals as goal
 

@@ -1,5 +1,6 @@
 use Rattle.std.proofs.Common.{◌≡◌, ℕ, List, take, IsTrue}
-use Rattle.cfi_graph.specs.inner.Imports.{imports_in, entry_among}
+use Rattle.cfi_graph.specs.Named.{entry_among}
+use Rattle.cfi_graph.specs.inner.Imports.{imports_in}
 use Rattle.cfi_graph.specs.inner.Names.{has_name}
 use Rattle.cfi_graph.proofs.imports.imports_named.Given as goal
 

@@ -3,7 +3,8 @@ use Rattle.std.proofs.Math.Seq.{take-length}
 use Rattle.std.specs.Option.{option_or}
 use Rattle.cfi_graph.specs.Shaped.{IsShaped}
 use Rattle.cfi_graph.specs.Direct.{IsImportTarget}
-use Rattle.cfi_graph.specs.inner.Imports.{imports_in, entry_in, entry_among}
+use Rattle.cfi_graph.specs.Named.{entry_in, entry_among}
+use Rattle.cfi_graph.specs.inner.Imports.{imports_in}
 use Rattle.cfi_graph.proofs.FirstLemmas.{first_more}
 use Rattle.cfi_graph.proofs.ImportLemmas.{are_imports}
 use Rattle.cfi_graph.proofs.imports.imports_of.Goals as goal

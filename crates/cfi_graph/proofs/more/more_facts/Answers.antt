@@ -2,7 +2,8 @@ use Rattle.std.proofs.Common.{[], length, refl, sym, ap, subst, ◌∙◌}
 use Rattle.std.specs.Option.{option_or}
 use Rattle.cfi_graph.specs.Facts.{ByName, ModuleTells, Adds}
 use Rattle.cfi_graph.specs.More.{OneMeetsOwn}
-use Rattle.cfi_graph.specs.inner.Imports.{imports_in, entry_in, entry_among}
+use Rattle.cfi_graph.specs.Named.{entry_in, entry_among}
+use Rattle.cfi_graph.specs.inner.Imports.{imports_in}
 use Rattle.cfi_graph.proofs.AddsLemmas.{adds_then, adds_all, adds_as}
 use Rattle.cfi_graph.proofs.ImportLemmas.{are_imports}
 use Rattle.cfi_graph.proofs.NamedLemmas.{AgreeOn, agree_back, module_named, met_named}

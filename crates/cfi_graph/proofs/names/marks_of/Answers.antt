@@ -1,6 +1,6 @@
 use Rattle.std.proofs.Common.{◌≡◌, ◌∙◌, IsTrue, length, get_or, ap, subst, arith}
 use Rattle.std.proofs.lemmas.List.{get_or_default}
-use Rattle.cfi_graph.specs.inner.Imports.{entry_by}
+use Rattle.cfi_graph.specs.Named.{entry_by}
 use Rattle.cfi_graph.specs.inner.Marks.{has_mark}
 use Rattle.cfi_graph.proofs.BoundLemmas.{contains_at}
 use Rattle.cfi_graph.proofs.FirstLemmas.{first_found}

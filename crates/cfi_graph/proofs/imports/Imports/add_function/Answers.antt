@@ -2,7 +2,8 @@ use Rattle.std.proofs.Common.{◌≡◌, ◌&&◌, Some, None, if◌then◌else�
 use Rattle.std.specs.Option.{option_or}
 use Rattle.std.specs.Str.{bytes_eq}
 use Rattle.cfi_graph.specs.Code.{entry_of}
-use Rattle.cfi_graph.specs.inner.Imports.{imports_in, entry_by}
+use Rattle.cfi_graph.specs.Named.{entry_by}
+use Rattle.cfi_graph.specs.inner.Imports.{imports_in}
 use Rattle.cfi_graph.proofs.AddsLemmas.{on_ok}
 use Rattle.cfi_graph.proofs.BoundLemmas.{inside}
 use Rattle.cfi_graph.proofs.imports.Imports.add_function.Goals as goal

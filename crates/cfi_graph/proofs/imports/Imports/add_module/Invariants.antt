@@ -1,6 +1,7 @@
 use Rattle.std.proofs.Common.{◌≡◌, ℕ, List, take}
 use Rattle.std.specs.Option.{option_or}
-use Rattle.cfi_graph.specs.inner.Imports.{imports_in, first_given, entry_by}
+use Rattle.cfi_graph.specs.Named.{first_given, entry_by}
+use Rattle.cfi_graph.specs.inner.Imports.{imports_in}
 use Rattle.cfi_graph.proofs.imports.Imports.add_module.Given as goal
 
 abbrev pub invariant-loop-function : goal.invariant-loop-function

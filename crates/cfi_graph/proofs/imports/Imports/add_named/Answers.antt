@@ -1,6 +1,7 @@
 use Rattle.std.proofs.Common.{◌≡◌, ◌∙◌, ◌+◌, ◌<◌, false, length, take, get_or, sym, ap, arith}
 use Rattle.std.specs.Option.{option_or}
-use Rattle.cfi_graph.specs.inner.Imports.{imports_in, first_given, entry_by}
+use Rattle.cfi_graph.specs.Named.{first_given, entry_by}
+use Rattle.cfi_graph.specs.inner.Imports.{imports_in}
 use Rattle.cfi_graph.specs.inner.Names.{has_name}
 use Rattle.cfi_graph.proofs.FirstLemmas.{or_none, or_or, first_more}
 use Rattle.cfi_graph.proofs.NameLemmas.{not_named}

@@ -1,6 +1,7 @@
 use Rattle.std.proofs.Common.{◌≡◌, ℕ, List, take, IsTrue}
 use Rattle.std.specs.Option.{option_or}
-use Rattle.cfi_graph.specs.inner.Imports.{imports_in, first_given, entry_by}
+use Rattle.cfi_graph.specs.Named.{first_given, entry_by}
+use Rattle.cfi_graph.specs.inner.Imports.{imports_in}
 use Rattle.cfi_graph.specs.inner.Names.{has_name}
 use Rattle.cfi_graph.proofs.imports.Imports.add_named.Given as goal
 
