@@ -1,5 +1,5 @@
 -- The start modules, one after the other.
-use Rattle.std.proofs.Common.{◌≡◌, ℕ, ◌+◌, ◌<◌, ◌++◌, Bool, true, false, List, [], ◌∷◌, length, get_or, Some, refl, sym, ap, subst, ◌∙◌, arith, length-append}
+use Rattle.std.proofs.Common.{◌≡◌, ◌≢◌, ℕ, ◌+◌, ◌<◌, ◌++◌, Bool, true, false, List, [], ◌∷◌, length, get_or, Some, refl, sym, ap, subst, ◌∙◌, arith, length-append}
 use Rattle.std.specs.Option.{option_map_or}
 use Rattle.std.specs.List.{slice_get}
 use Rattle.std.proofs.lemmas.List.Sums.{sum_by-cons}
@@ -17,6 +17,8 @@ use Rattle.cfi_valid.specs.Journal.{IsOpeningState, starts_from}
 use Rattle.cfi_valid.specs.Loaded.{LoadedModule, planned_name}
 use Rattle.cfi_valid.proofs.StartLemmas.{StartsAreLoaded, one_of, starts_cons, starts_same, starts_more, starts_all, unjoined}
 use Rattle.cfi_ledger.specs.Opening.{IsStartFault}
+use Rattle.cfi_ledger.specs.declared.fault.OpenFault.TheVariants.{NoEntry}
+use Rattle.cfi_ledger.specs.declared.fault.StartFault.TheVariants.{Open}
 use Rattle.cfi_ledger.specs.Roster.{Roster, HasJoined, line_by, loaded_in_roster, loaded_of, origin_of}
 use Rattle.cfi_ledger.specs.Starts.{AreStarted, opened_state, start_fault_of}
 use Rattle.cfi_ledger.proofs.JoinedLemmas.{joined_roster}
@@ -40,6 +42,14 @@ starts_count number (m ∷ ms) =
       starts_count (number + 1) ms,
       sum_by-cons (λ (x : PlanModule). one_if x.start) m ms,
     )
+
+-- ---- faults
+
+-- no start module's fault is that of a guest
+pub never_lost : (number : ℕ) (fault : JoinFault) (guest : ℕ) → start_fault_of number fault ≢ Open (NoEntry guest)
+never_lost number (joins.Place fault) guest same = absurd (cc)
+never_lost number (joins.Verify fault) guest same = absurd (cc)
+never_lost number joins.Memory guest same = absurd (cc)
 
 -- ---- the modules so far
 

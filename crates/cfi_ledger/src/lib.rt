@@ -37,7 +37,7 @@ pub use finding::{Finding, Known, Outcome};
 pub use force::Force;
 pub use journal::Journal;
 pub use offer::Offer;
-pub use opening::open_modules;
+pub use opening::{open_modules, start_modules};
 pub use opens::open_answer;
 pub use prospect::Prospect;
 pub use roster::{Roster, Unjoined};

@@ -1,11 +1,12 @@
 //! The opening of a plan: its start modules, and where its guests begin.
 
-ghost use Rattle.std.specs.Prelude.{◌≡◌, ◌<◌, ◌^◌, IfOk, IfErr, length};
+ghost use Rattle.std.specs.Prelude.{◌≡◌, ◌≢◌, ◌<◌, ◌^◌, ℕ, IfOk, IfErr, length};
 ghost use Rattle.cfi_ledger.specs.Opening.{AreOpened, AreOpeningBooks, HasOpened, IsStartRoster, IsStartFault};
 ghost use Rattle.cfi_ledger.specs.Plans.{CanStart};
 ghost use Rattle.cfi_ledger.specs.Roster.{IsBookOfRoster};
 ghost use Rattle.cfi_ledger.specs.Starts.{AreStarted, start_fault_of};
-ghost use Rattle.cfi_ledger.specs.declared.fault.StartFault.TheVariants.{Memory};
+ghost use Rattle.cfi_ledger.specs.declared.fault.OpenFault.TheVariants.{NoEntry};
+ghost use Rattle.cfi_ledger.specs.declared.fault.StartFault.TheVariants.{Memory, Open};
 
 use crate::books::Books;
 use crate::copies::plan_copy;
@@ -36,8 +37,11 @@ fn start_fault_of(number: usize, fault: JoinFault) -> StartFault
     }
 }
 
-// The start modules of a plan, in plan order, each placed and verified behind those before it.
-fn start_modules(
+/// The start modules of a plan, in plan order, each placed and verified behind those before it; where a guest begins is
+/// not asked.
+///
+/// `modules` are those of the plan, one a line.
+pub fn start_modules(
     alloc: Global,
     layout: &Layout,
     plan: &Plan,
@@ -47,6 +51,7 @@ fn start_modules(
     requires layout { layout.now ≡ plan.now.code_words }
     ensures ok { IfOk result (AreStarted plan.now modules.now (length plan.now.modules)) }
     ensures fault { IfErr result (IsStartFault plan.now modules.now) }
+    ensures found { IfErr result (λ fault. (guest : ℕ) → fault ≢ Open (NoEntry guest)) }
 {
     let mut roster = Roster::new(alloc, layout);
     for (number, one) in plan.modules.as_slice().iter().enumerate() {

@@ -1,11 +1,14 @@
-use Rattle.std.proofs.Common.{◌+◌, ◌<◌, ℕ, List, length, get_or, Some, ap, sym, subst, ◌∙◌, arith}
+use Rattle.std.proofs.Common.{◌≢◌, ◌+◌, ◌<◌, ℕ, List, length, get_or, Some, ap, sym, subst, ◌∙◌, arith}
 use Rattle.std.proofs.lemmas.Option.{slice_get-get_or}
 use Rattle.cfi_aux.specs.declared.modules.Module.{Module}
 use Rattle.cfi_plan.specs.declared.plan.PlanModule.{PlanModule}
 use Rattle.cfi_ledger.specs.Opening.{IsStartFault}
+use Rattle.cfi_ledger.specs.declared.fault.OpenFault.TheVariants.{NoEntry}
+use Rattle.cfi_ledger.specs.declared.fault.StartFault.{StartFault}
+use Rattle.cfi_ledger.specs.declared.fault.StartFault.TheVariants.{Open}
 use Rattle.cfi_ledger.specs.Roster.{HasJoined}
 use Rattle.cfi_ledger.specs.Starts.{AreStarted}
-use Rattle.cfi_ledger.proofs.StartLemmas.{started_same, started_more, started_fault}
+use Rattle.cfi_ledger.proofs.StartLemmas.{never_lost, started_same, started_more, started_fault}
 use Rattle.cfi_ledger.proofs.opening.start_modules.Goals as goal
 use Rattle.cfi_ledger.proofs.opening.start_modules.Goals.{then-one+in-Ok, else-one}
 
@@ -25,6 +28,12 @@ returns-in-Err-clause-fault c =
     subst (IsStartFault plan modules) (sym c.start_fault_of.ensures)
     (started_fault plan modules n one within is c.loop-number.roster c.loop-number.invariant c.if-one.true unplaced
     there c.in-Err.fault c.in-Err.ensures.fault)
+
+-- its fault is not that of a guest
+pub returns-in-Err-clause-found : goal.returns-in-Err-clause-found
+returns-in-Err-clause-found c = λ guest.
+    subst (λ (fault : StartFault). fault ≢ Open (NoEntry guest)) (sym c.start_fault_of.ensures)
+    (never_lost c.loop-number.number c.in-Err.fault guest)
 
 -- one module more
 pub loop-number-preserved : goal.loop-number-preserved
