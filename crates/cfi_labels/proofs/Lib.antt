@@ -1,0 +1,3 @@
+pub mod ClassLemmas
+pub mod LoadedLemmas
+pub mod SetLemmas

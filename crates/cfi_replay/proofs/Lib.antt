@@ -1,0 +1,10 @@
+pub mod RestLemmas
+pub mod PickLemmas
+pub mod PlaceLemmas
+pub mod FillLemmas
+pub mod UnitLemmas
+pub mod RunLemmas
+pub mod GoLemmas
+pub mod OpenLemmas
+pub mod StartLemmas
+pub mod EndLemmas

@@ -1,0 +1,115 @@
+-- A machine that follows the log of a part, unit by unit.
+use Rattle.std.specs.Prelude.{◌≡◌, ℕ, ◌≤◌, false, true, List, [], length, drop, slice_get, Option, Some, None, ⊤}
+use Rattle.std.specs.List.{fold}
+use Rattle.cfi_model.specs.Log.{last_policy, policy_after}
+use Rattle.cfi_model.specs.Plain.{PlainState, answered}
+use Rattle.cfi_model.specs.Service.{Reply, reply_of}
+use Rattle.cfi_model.specs.State.{State}
+use Rattle.cfi_unit.specs.declared.log.Log.{Log}
+use Rattle.cfi_unit.specs.declared.log.Log.TheVariants.{Pick, Open, Cause}
+use Rattle.cfi_valid.specs.Loaded.{fills_between}
+use Rattle.cfi_valid.specs.Log.{NeverFall}
+use Rattle.cfi_valid.specs.Replay.{singles, given_by, IsReplayed, Replays}
+use Rattle.cfi_replay.specs.Setting.{loaded_in}
+use Rattle.cfi_replay.specs.declared.cursor.Cursor.{Cursor}
+use Rattle.cfi_replay.specs.declared.setting.Setting.{Setting}
+use Rattle.cfi_replay.specs.inner.Cursor.{HasAnswered, HasMark, IsSettled}
+
+-- ---- where the machine is in the log
+
+-- what the log has left is what the cursor has
+pub record IsAt (log : List Log) (cursor : Cursor) (s : State) : Type 0 where
+  pub within : cursor.at ≤ length log
+  pub rest : drop (length (singles s.log)) (singles log) ≡ drop cursor.used (singles (drop cursor.at log))
+  pub settled : IsSettled cursor.used (drop cursor.at log)
+  pub policy_is : cursor.policy ≡ last_policy s.log
+  pub given_is : cursor.given ≡ given_by s.log
+  pub mark : HasMark s.log cursor
+
+-- the policies of what is left never fall, and none is above the one in force
+pub record Rises (force : ℕ) (cursor : Cursor) (left : List Log) : Type 0 where
+  pub rises : NeverFall cursor.policy left
+  pub most : fold policy_after cursor.policy left ≤ force
+  pub given : cursor.given ≤ cursor.policy
+
+-- the machine runs no unit, and is there
+pub record Follows (s : Setting) (log : List Log) (cursor : Cursor) (m : PlainState) : Type 0 where
+  pub idle : m.waits ≡ false
+  pub at : IsAt log cursor m.state
+  pub rises : Rises s.force cursor (drop cursor.at log)
+
+-- ---- one unit
+
+-- the policy of the next check
+abbrev pub policy_next : (policy : ℕ) → Option Log → ℕ
+policy_next policy (Some (Pick next count)) = next
+policy_next policy (Some (Open number address other)) = policy
+policy_next policy (Some (Cause number cause)) = policy
+policy_next policy None = policy
+
+-- a unit is replayed, and the machine follows on
+pub record HasGone (s : Setting) (log : List Log) (old_cursor : Cursor) (old : PlainState) (new_cursor : Cursor)
+    (new : PlainState) : Type 0 where
+  pub unit : IsReplayed s.code.now (loaded_in s) log old.state new.state
+  pub follows : Follows s log new_cursor new
+
+-- ---- an open
+
+-- the machine waits for the answer to an open
+pub record Asks (s : Setting) (log : List Log) (cursor : Cursor) (m : PlainState) : Type 0 where
+  pub waiting : m.waits ≡ true
+  pub at : IsAt log cursor m.state
+  pub rises : Rises s.force cursor (drop cursor.at log)
+
+-- the answer by an entry: an open brings the data up to its policy, a cause none
+abbrev pub reply_by : Setting → Cursor → Log → Reply
+reply_by s cursor (Pick policy count) = reply_of 0 0 0 []
+reply_by s cursor (Open number address policy) =
+    reply_of address 0 policy (fills_between cursor.given policy (loaded_in s))
+reply_by s cursor (Cause number cause) = reply_of 0 cause cursor.policy []
+
+-- the policy and the policy of data after it
+abbrev pub policy_by : Cursor → Log → ℕ
+policy_by cursor (Pick policy count) = cursor.policy
+policy_by cursor (Open number address policy) = policy
+policy_by cursor (Cause number cause) = cursor.policy
+
+abbrev pub given_to : Cursor → Log → ℕ
+given_to cursor (Pick policy count) = cursor.given
+given_to cursor (Open number address policy) = policy
+given_to cursor (Cause number cause) = cursor.given
+
+-- the entry is that of an open
+abbrev pub IsOpenEntry : Log → Type 0
+IsOpenEntry (Pick policy count) = ⊥
+IsOpenEntry (Open number address policy) = ⊤
+IsOpenEntry (Cause number cause) = ⊤
+
+-- the next entry answers
+pub record HasAnsweredBy (s : Setting) (log : List Log) (old_cursor : Cursor) (old : PlainState) (new_cursor : Cursor)
+    (new : PlainState) : Type 0 where
+  pub entry : Log
+  pub next : slice_get log old_cursor.at ≡ Some entry
+  pub answers : IsOpenEntry entry
+  pub is : new ≡ answered (reply_by s old_cursor entry) old
+  pub cursor : HasAnswered log new.state.log (policy_by old_cursor entry) (given_to old_cursor entry)
+      old_cursor new_cursor
+
+-- it answers none
+abbrev pub IsNoAnswer : Option Log → Type 0
+IsNoAnswer (Some (Pick policy count)) = ⊤
+IsNoAnswer (Some (Open number address policy)) = ⊥
+IsNoAnswer (Some (Cause number cause)) = ⊥
+IsNoAnswer None = ⊤
+
+-- ---- all units
+
+-- a machine at its start
+pub record IsStart (m : PlainState) : Type 0 where
+  pub idle : m.waits ≡ false
+  pub unlogged : m.state.log ≡ []
+  pub units : m.state.units ≡ 0
+
+-- so many units lead from one state to another
+abbrev pub HasReplayed : Setting → List Log → (units : ℕ) → (start last : State) → Type 0
+HasReplayed s log units start last = Replays s.code.now (loaded_in s) log units start last

@@ -1,0 +1,79 @@
+//! The data that comes with policies.
+
+ghost use Rattle.std.specs.Prelude.{◌≡◌, ◌<◌, ◌≤◌, ◌^◌, drop, length, take};
+ghost use Rattle.std.specs.List.{All};
+ghost use Rattle.cfi_model.specs.Data.{LiesInData};
+ghost use Rattle.cfi_modules.specs.Entry.{HasAddresses};
+ghost use Rattle.cfi_modules.specs.Series.{IsSeries};
+ghost use Rattle.cfi_replay.specs.Setting.{IsSetting, loaded_in};
+ghost use Rattle.cfi_replay.specs.inner.Fills.{starts_in};
+ghost use Rattle.cfi_valid.specs.Loaded.{fills_between, start_fills, placed_modules, loaded_by};
+
+use crate::setting::Setting;
+use cfi_aux::Placed;
+use cfi_modules::loaded_have_entries;
+use cfi_unit::Fill;
+
+// The first modules.
+fn first_modules(modules: &[Placed], count: usize) -> &[Placed]
+    requires { count ≤ length modules.now }
+    ensures { result.now ≡ take count modules.now }
+{
+    &modules[..count]
+}
+
+// The fills from one to another.
+fn fills_in(fills: &[Fill], from: usize, to: usize) -> &[Fill]
+    requires order { from ≤ to }
+    requires within { to ≤ length fills.now }
+    ensures { result.now ≡ drop from (take to fills.now) }
+{
+    let early = &fills[..to];
+    &early[from..]
+}
+
+impl Setting<'_> {
+    // How many of the loaded modules were there from the start: each of the others came with a policy of its own.
+    fn starts(&self) -> usize
+        requires { IsSetting self.now }
+        ensures is { result ≡ starts_in self.now }
+        ensures small { result < 2 ^ 63 }
+        ensures series { IsSeries self.now.roster.now.code_words self.now.roster.now.placed }
+    {
+        self.roster.modules().len() - self.force as usize
+    }
+
+    /// The start modules, as they are placed.
+    pub(crate) fn start_modules(&self) -> &[Placed]
+        requires { IsSetting self.now }
+        ensures is { result.now ≡ placed_modules (loaded_by 0 (loaded_in self.now)) }
+        ensures addresses { All HasAddresses result.now }
+    {
+        loaded_have_entries();
+        let modules = self.roster.modules();
+        first_modules(modules, self.starts())
+    }
+
+    /// Their data.
+    pub(crate) fn start_fills(&self) -> &[Fill]
+        requires { IsSetting self.now }
+        ensures is { result.now ≡ start_fills (loaded_in self.now) }
+        ensures lies { All LiesInData result.now }
+    {
+        let fills = self.roster.fills();
+        fills_in(fills, 0, self.starts())
+    }
+
+    /// The data that came above one policy and up to another.
+    pub(crate) fn fills_between(&self, above: u32, upto: u32) -> &[Fill]
+        requires setting { IsSetting self.now }
+        requires order { above ≤ upto }
+        requires most { upto ≤ self.now.force }
+        ensures is { result.now ≡ fills_between above upto (loaded_in self.now) }
+        ensures lies { All LiesInData result.now }
+    {
+        let starts = self.starts();
+        let fills = self.roster.fills();
+        fills_in(fills, starts + above as usize, starts + upto as usize)
+    }
+}

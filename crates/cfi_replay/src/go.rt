@@ -1,0 +1,106 @@
+//! One unit of a replay.
+
+ghost use Rattle.std.specs.Prelude.{◌≡◌, ◌≢◌, ◌+◌, ◌<◌, ◌^◌, IsTrue, None, false, slice_get};
+ghost use Rattle.cfi_model.specs.State.{State};
+ghost use Rattle.cfi_replay.specs.Setting.{CanReplay, IsSetting, loaded_in};
+ghost use Rattle.cfi_replay.specs.inner.Follows.{policy_next, Asks, Follows, HasAnsweredBy, HasGone, IsNoAnswer};
+ghost use Rattle.cfi_valid.specs.Replay.{IsReplayed};
+
+use crate::cursor::Cursor;
+use crate::setting::Setting;
+use cfi_model::{Answer, Plain, PlainStep};
+use cfi_unit::Log;
+
+// The policy of the next check: that of the next pick, or else the last one that was logged.
+fn next_policy(log: &[Log], cursor: &Cursor) -> u32
+    ensures { result ≡ policy_next cursor.now.policy (slice_get log.now cursor.now.at) }
+{
+    match log.get(cursor.at) {
+        Some(Log::Pick { policy, .. }) => *policy,
+        Some(Log::Open { .. }) => cursor.policy,
+        Some(Log::Cause { .. }) => cursor.policy,
+        None => cursor.policy,
+    }
+}
+
+// The machine has stopped.
+fn has_stopped(machine: &Plain) -> bool
+    ensures going { result ≡ false → machine.now.state.stop ≡ None }
+    ensures stopped { IsTrue result → machine.now.state.stop ≢ None }
+{
+    machine.stop().is_some()
+}
+
+// The next entry of the log.
+fn next_entry(log: &[Log], cursor: &Cursor) -> Option<Log>
+    ensures { result ≡ slice_get log.now cursor.now.at }
+{
+    log.get(cursor.at).copied()
+}
+
+impl Setting<'_> {
+    // Answers the open for which the machine waits with the next entry of the log. False where that is none of an open.
+    fn answer(&self, log: &[Log], machine: &mut Plain, cursor: &mut Cursor) -> bool
+        requires setting { IsSetting self.now }
+        requires can { CanReplay self.now log.now }
+        requires asks { Asks self.now log.now cursor.old machine.old }
+        ensures yes { IsTrue result → HasAnsweredBy self.now log.now cursor.old machine.old cursor.new machine.new }
+        ensures no { result ≡ false → IsNoAnswer (slice_get log.now cursor.old.at) }
+    {
+        match next_entry(log, cursor) {
+            Some(
+                Log::Open {
+                    address,
+                    policy,
+                    ..
+                },
+            ) => {
+                let fills = self.fills_between(cursor.given, policy);
+                machine.answer(&Answer {
+                    address,
+                    cause: 0,
+                    policy,
+                    fills,
+                });
+                cursor.answered(log, machine.log(), policy, policy);
+            }
+            Some(Log::Cause { cause, .. }) => {
+                let policy = cursor.policy;
+                machine.answer(&Answer {
+                    address: 0,
+                    cause,
+                    policy,
+                    fills: &[],
+                });
+                cursor.answered(log, machine.log(), policy, cursor.given);
+            }
+            Some(Log::Pick { .. }) => return false,
+            None => return false,
+        }
+        true
+    }
+
+    /// Runs one unit of a replay over this log. False where there is none.
+    pub(crate) fn go(&self, log: &[Log], machine: &mut Plain, cursor: &mut Cursor) -> bool
+        requires setting { IsSetting self.now }
+        requires can { CanReplay self.now log.now }
+        requires follows { Follows self.now log.now cursor.old machine.old }
+        requires few { machine.old.state.units + 1 < 2 ^ 32 }
+        ensures went { IsTrue result →
+            HasGone self.now log.now cursor.old machine.old cursor.new machine.new }
+        ensures stuck { result ≡ false → (new : State) →
+            ¬ IsReplayed self.now.code.now (loaded_in self.now) log.now machine.old.state new }
+    {
+        if has_stopped(machine) {
+            return false;
+        }
+        let policy = next_policy(log, cursor);
+        let labels = &self.labels[policy as usize];
+        match machine.turn(self.code, policy, labels) {
+            Some(PlainStep::Asks(_)) => self.answer(log, machine, cursor),
+            Some(PlainStep::Went) => cursor.keep_up(log, machine.log()),
+            Some(PlainStep::Stopped(_)) => cursor.keep_up(log, machine.log()),
+            None => false,
+        }
+    }
+}
