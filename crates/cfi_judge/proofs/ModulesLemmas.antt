@@ -1,25 +1,157 @@
--- The lines of a report are those of the modules to which its journal leads.
-use Rattle.std.proofs.Common.{◌≡◌, Bool, List, sym, ◌∙◌}
+-- The modules of a report: the start modules, and those that its journal tells of behind them.
+use Rattle.std.proofs.Common.{◌≡◌, ◌≢◌, ℕ, ◌+◌, ◌<◌, ◌≤◌, Bool, true, false, List, [], ◌∷◌, ◌++◌, length, map, take, drop, Some, refl, sym, ap, subst, ◌∙◌, arith, length-append, append_assoc}
 use Rattle.std.specs.Prelude.{◌↔◌, IsTrue}
+use Rattle.std.proofs.lemmas.List.{append-nil, length-map, length-take-le, map-append, take-append-drop}
 use Rattle.cfi_aux.specs.declared.modules.Module.{Module}
+use Rattle.cfi_aux.specs.declared.placed.Placed.{Placed}
 use Rattle.cfi_plan.specs.declared.journal.ModuleLine.{ModuleLine}
 use Rattle.cfi_plan.specs.declared.plan.Plan.{Plan}
 use Rattle.cfi_report.specs.declared.report.Report.{Report}
-use Rattle.cfi_ledger.specs.Roster.{loaded_in_roster}
-use Rattle.cfi_valid.specs.Modules.{HasModules}
+use Rattle.cfi_ledger.specs.Roster.{Roster, loaded_in_roster, origin_of as line_origin}
+use Rattle.cfi_ledger.specs.Starts.{AreStarted, opened_state}
+use Rattle.cfi_ledger.proofs.StartLemmas.{started_all}
+use Rattle.cfi_valid.specs.Journal.{JournalState, starts_from}
+use Rattle.cfi_valid.specs.Kept.{Origin}
+use Rattle.cfi_valid.specs.Loaded.{LoadedModule, module_line_of, placed_modules}
+use Rattle.cfi_valid.specs.Modules.{HasModules, origin_of, start_origin, start_origins, told_origins}
 use Rattle.cfi_valid.specs.Valid.{HasJournal}
+use Rattle.cfi_valid.proofs.KeptLemmas.{places_are}
 use Rattle.cfi_valid.proofs.ModulesLemmas.{journal_modules}
-use Rattle.cfi_judge.specs.declared.reached.Reached.{Reached}
-use Rattle.cfi_judge.specs.Reached.{StandsIn, state_of}
+use Rattle.cfi_judge.specs.Modules.{HasSomeModules}
+use Rattle.cfi_judge.specs.inner.Told.{ComeFrom, Follow}
+use Rattle.cfi_judge.proofs.ListLemmas.{parts_same}
+use Rattle.cfi_judge.proofs.ToldLemmas.{come_once, first_placed, follow_on, followed, many}
 
-module _ (plan : Plan) (modules : List Module) (report : Report) (end : Reached) (stands : StandsIn plan end)
-    (journal : HasJournal plan modules report (state_of end)) where
-  pub modules_told : (told lines : List ModuleLine) → told ≡ report.modules → lines ≡ end.roster.lines
-      → (answer : Bool) → (IsTrue answer ↔ (told ≡ lines))
-      → IsTrue answer ↔ HasModules plan modules report (loaded_in_roster end.roster)
-  modules_told told lines told_is lines_are answer exact = (
-    λ yes.
-        journal_modules plan modules report (state_of end) journal.course
-        (sym told_is ∙ exact.0 yes ∙ lines_are ∙ stands.lines_are),
-    λ has. exact.1 (told_is ∙ has.lines ∙ sym stands.lines_are ∙ sym lines_are),
-  )
+-- the modules of a report come from its plan and its journal
+pub has_come : (plan : Plan) (modules : List Module) (report : Report) (loaded : List LoadedModule)
+    → HasModules plan modules report loaded → ComeFrom plan modules (told_origins report.journal) loaded
+has_come plan modules report loaded has = record { origins = has.origins; places = has.places }
+
+-- those of a legal journal are the ones to which it leads
+pub journal_has : (plan : Plan) (modules : List Module) (report : Report) (end : JournalState)
+    → HasJournal plan modules report end → HasSomeModules plan modules report
+    → HasModules plan modules report end.loaded
+journal_has plan modules report end journal has =
+    let lines : Report = record report { modules = map (module_line_of plan.modules) end.loaded } in
+    let led = journal_modules plan modules lines end journal.course refl in
+    let come : ComeFrom plan modules (told_origins report.journal) end.loaded =
+    record { origins = led.origins; places = led.places } in
+    let same : has.0 ≡ end.loaded =
+    come_once plan modules (told_origins report.journal) has.0 end.loaded (has_come plan modules report has.0 has.1) come in
+    subst (HasModules plan modules report) same has.1
+
+module _ (plan : Plan) (modules : List Module) (report : Report) (r : Roster)
+    (all : AreStarted plan modules (length plan.modules) r) where
+  abbrev line_of : LoadedModule → ModuleLine
+  line_of l = module_line_of plan.modules l
+
+  abbrev loaded : List LoadedModule
+  loaded = loaded_in_roster r
+
+  abbrev told : List Origin
+  told = told_origins report.journal
+
+  places : placed_modules loaded ≡ r.placed
+  places = places_are line_origin r.lines r.placed all.roster_is.many
+
+  start_come : ComeFrom plan modules [] loaded
+  start_come =
+      let lines : Report = record report { journal = []; modules = map line_of loaded } in
+      let led = journal_modules plan modules lines (opened_state plan r)
+      (record { opening = opened_state plan r; opens = started_all plan modules r all; leads = refl }) refl in
+      record { origins = led.origins; places = led.places }
+
+  start_many : length loaded ≡ length (starts_from 0 plan.modules)
+  start_many = omega (arith, many plan modules [] loaded start_come)
+
+  line_many : length r.lines ≡ length (starts_from 0 plan.modules)
+  line_many =
+      ap (λ (xs : List ModuleLine). length xs) all.roster_is.lines_are ∙ length-map loaded line_of ∙ start_many
+
+  -- ---- where a report has them
+
+  pub as_many : HasSomeModules plan modules report → length report.modules ≡ length r.lines + length told
+  as_many has =
+      omega (
+        arith,
+        ap (λ (xs : List ModuleLine). length xs) has.1.lines,
+        length-map has.0 line_of,
+        many plan modules told has.0 (has_come plan modules report has.0 has.1),
+        line_many,
+      )
+
+  module _ (first rest : List ModuleLine) (lines_are : report.modules ≡ first ++ rest) where
+    pub they_follow : first ≡ r.lines → Follow plan modules r.placed rest told → HasSomeModules plan modules report
+    they_follow same follow =
+        let on : Follow plan modules (placed_modules loaded) rest told =
+        subst (λ (ps : List Placed). Follow plan modules ps rest told) (sym places) follow in
+        let have = followed plan modules [] loaded start_come rest told on in (
+          have.loaded,
+          record {
+            origins = have.come.origins;
+            places = have.come.places;
+            lines = lines_are
+                ∙ ap (λ (xs : List ModuleLine). xs ++ rest) (same ∙ all.roster_is.lines_are)
+                ∙ have.lines_are;
+          },
+        )
+
+    module _ (count : length first ≡ length r.lines) (has : HasSomeModules plan modules report) where
+      abbrev these : List LoadedModule
+      these = take (length loaded) has.0
+
+      abbrev those : List LoadedModule
+      those = drop (length loaded) has.0
+
+      both : these ++ those ≡ has.0
+      both = take-append-drop (length loaded) has.0
+
+      come : ComeFrom plan modules told (these ++ those)
+      come = subst (ComeFrom plan modules told) (sym both) (has_come plan modules report has.0 has.1)
+
+      so_many : length these ≡ length loaded
+      so_many =
+          length-take-le (length loaded) has.0
+          (omega (arith, start_many, many plan modules told has.0 (has_come plan modules report has.0 has.1)))
+
+      origins : (map origin_of these ≡ start_origins plan) × (map origin_of those ≡ told)
+      origins =
+          parts_same (map origin_of these) (map origin_of those) (start_origins plan) told
+          (length-map these origin_of ∙ so_many ∙ start_many
+          ∙ sym (length-map (starts_from 0 plan.modules) start_origin))
+          (sym (map-append origin_of these those) ∙ come.origins)
+
+      these_are : these ≡ loaded
+      these_are =
+          come_once plan modules [] these loaded
+          (record {
+            origins = origins.0 ∙ sym (append-nil (start_origins plan));
+            places = first_placed plan modules these those come.places;
+          }) start_come
+
+      lines : (first ≡ map line_of these) × (rest ≡ map line_of those)
+      lines =
+          parts_same first rest (map line_of these) (map line_of those)
+          (count ∙ line_many ∙ sym (length-map these line_of ∙ so_many ∙ start_many))
+          (sym lines_are ∙ has.1.lines ∙ ap (λ (ls : List LoadedModule). map line_of ls) (sym both)
+          ∙ map-append line_of these those)
+
+      pub first_are : first ≡ r.lines
+      first_are =
+          lines.0 ∙ ap (λ (ls : List LoadedModule). map line_of ls) these_are ∙ sym all.roster_is.lines_are
+
+      pub rest_follow : Follow plan modules r.placed rest told
+      rest_follow =
+          let on = follow_on plan modules told these those come told origins.1 in
+          let here : placed_modules these ≡ r.placed = ap placed_modules these_are ∙ places in
+          subst (λ (xs : List ModuleLine). Follow plan modules r.placed xs told) (sym lines.1)
+          (subst (λ (ps : List Placed). Follow plan modules ps (map line_of those) told) here on)
+
+    -- an answer that goes by those behind the start modules
+    pub modules_told : length first ≡ length r.lines → first ≡ r.lines → (os : List Origin) → os ≡ told
+        → (answer : Bool) → (IsTrue answer ↔ Follow plan modules r.placed rest os)
+        → IsTrue answer ↔ HasSomeModules plan modules report
+    modules_told count same os os_are answer exact = (
+      λ yes. they_follow same (subst (Follow plan modules r.placed rest) os_are (exact.0 yes)),
+      λ has. exact.1 (subst (Follow plan modules r.placed rest) (sym os_are) (rest_follow count has)),
+    )

@@ -1,6 +1,7 @@
 pub mod Guests
 pub mod Reached
 pub mod Journal
+pub mod Modules
 pub mod Steps
-pub mod Logs
+pub mod Judge
 pub mod inner

@@ -7,4 +7,7 @@ pub mod Walk
 pub mod Steps
 pub mod Log
 pub mod Rows
-pub mod Judge
+pub mod Trial
+pub mod Told
+pub mod Next
+pub mod Runs

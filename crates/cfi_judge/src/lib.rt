@@ -1,12 +1,13 @@
-//! The judge of reports: whether a report is a valid one of a plan and its modules, part by part.
+//! The judge of reports: whether a report is a valid one of a plan and its modules, and else the first part that fails.
 //!
-//! Stands on `cfi_valid`, whose definitions it decides, on `cfi_ledger`, which has the loaded modules, and on what
-//! these stand on. Proved: each part is answered with yes exactly where its definition holds: the script; the guests,
-//! against the start modules; the journal, line by line from the start modules on, with the first line that is not
-//! legal; the modules, where the journal is legal; the log of each guest, with all causes of its opens, against what
-//! each module of the plan meets behind those that each policy finds loaded, which is noted along the journal; and the
-//! steps, against the state to which a replay has come. No guest is run. Only tested: nothing. Open: the replay,
-//! modules and logs where the journal is not legal, the judge of a whole report; that memory suffices.
+//! Stands on `cfi_valid`, whose definitions it decides, on `cfi_ledger`, which has the loaded modules, on `cfi_labels` and
+//! `cfi_replay`, which replay guests, and on what these stand on. Proved: a report is taken exactly where it is valid, and
+//! else refused with the first part that fails, in the order of `JudgeFault`, and the least line or guest in it: the
+//! modules, legal or not, each placed at the next free place until one does not fit its line; the journal, line by line
+//! from the start modules on; the script; the guests, against the start modules; the log of each guest, with all causes
+//! of its opens, against what each module of the plan meets behind those that each policy finds loaded; the replay of
+//! each guest, which is made once; and its steps. Each part is also told alone. Only tested: the texts of faults. Open:
+//! that memory suffices.
 #![tactic(auto)]
 
 mod causes;
@@ -14,23 +15,26 @@ mod entries;
 mod fault;
 mod guests;
 mod journal;
-mod judge;
+mod judged;
 pub mod laws;
 mod lines;
 mod log;
-mod logs;
 mod meeting;
 mod modules;
+mod next;
 mod reached;
 mod rows;
+mod runs;
 mod script;
 mod span;
 mod steps;
+mod told;
+mod trial;
 
-pub use fault::JournalFault;
+pub use fault::{JournalFault, JudgeFault};
 pub use guests::has_guests;
 pub use journal::journal_end;
-pub use logs::has_logs;
+pub use judged::judge;
 pub use modules::has_modules;
 pub use reached::Reached;
 pub use script::has_script;

@@ -1,15 +1,20 @@
 //! The modules.
 
-ghost use Rattle.std.specs.Prelude.{◌≡◌, ◌↔◌, IsTrue};
-ghost use Rattle.cfi_judge.specs.Reached.{StandsIn, state_of};
-ghost use Rattle.cfi_ledger.specs.Roster.{loaded_in_roster};
-ghost use Rattle.cfi_valid.specs.Modules.{HasModules};
-ghost use Rattle.cfi_valid.specs.Valid.{HasJournal};
+ghost use Rattle.std.specs.Prelude.{◌≡◌, ◌↔◌, List, IfOk, IsTrue, length, map};
+ghost use Rattle.cfi_aux.specs.declared.placed.Placed.{Placed};
+ghost use Rattle.cfi_judge.specs.Modules.{HasSomeModules};
+ghost use Rattle.cfi_judge.specs.inner.Next.{IsNext};
+ghost use Rattle.cfi_judge.specs.inner.Told.{Follow, told_origin};
+ghost use Rattle.cfi_ledger.specs.Plans.{CanStart};
+ghost use Rattle.cfi_ledger.specs.Starts.{AreStarted};
 
-use crate::reached::Reached;
+use crate::next::Next;
+use crate::told::{Told, told_in};
 use cfi_aux::Module;
+use cfi_ledger::Roster;
 use cfi_plan::{ModuleLine, Plan};
 use cfi_report::Report;
+use std::alloc::{AllocError, Global};
 
 // The lines say the same.
 fn is_line(line: &ModuleLine, other: &ModuleLine) -> bool
@@ -33,14 +38,58 @@ fn are_lines(lines: &[ModuleLine], others: &[ModuleLine]) -> bool
     true
 }
 
-/// Whether a report whose journal leads to this state has a line for each module that is loaded there.
-///
-/// `modules` are those of the plan, one a line.
-pub fn has_modules(plan: &Plan, modules: &[Module], end: &Reached, report: &Report) -> bool
-    requires stands { StandsIn plan.now end.now }
-    requires journal { HasJournal plan.now modules.now report.now (state_of end.now) }
-    ensures { IsTrue result ↔ HasModules plan.now modules.now report.now
-        (loaded_in_roster end.now.roster) }
+// The modules that are told follow those before the start, each with its line. The first that does not ends it.
+fn follow(
+    alloc: Global,
+    plan: &Plan,
+    modules: &[Module],
+    start: Next,
+    lines: &[ModuleLine],
+    told: &[Told],
+) -> Result<bool, AllocError>
+    requires can { CanStart plan.now modules.now }
+    requires next { (before : List Placed) × IsNext plan.now.code_words before start }
+    requires same { length lines.now ≡ length told.now }
+    ensures { (before : List Placed) → IsNext plan.now.code_words before start →
+        IfOk result (λ is. IsTrue is
+        ↔ Follow plan.now modules.now before lines.now (map told_origin told.now)) }
 {
-    are_lines(report.modules.as_slice(), end.roster.lines())
+    let mut next = start;
+    for number in 0..told.len() {
+        next = match next.take(alloc, plan, modules, &lines[number], told[number])? {
+            Some(next) => next,
+            None => return Ok(false),
+        };
+    }
+    Ok(true)
+}
+
+/// Whether a report has the modules that its plan and its journal tell of, each at the next free place; whether the
+/// lines of the journal are legal is not asked.
+///
+/// `starts` has the start modules of the plan, and `modules` are those of the plan, one a line. Nothing is placed where
+/// the report has another number of lines, and nothing behind a module that its line does not fit; those behind the
+/// start modules are not verified.
+pub fn has_modules(
+    alloc: Global,
+    plan: &Plan,
+    modules: &[Module],
+    starts: &Roster,
+    report: &Report,
+) -> Result<bool, AllocError>
+    requires can { CanStart plan.now modules.now }
+    requires started { AreStarted plan.now modules.now (length plan.now.modules) starts.now }
+    ensures { IfOk result (λ is. IsTrue is ↔ HasSomeModules plan.now modules.now report.now) }
+{
+    let told = told_in(alloc, report.journal.as_slice())?;
+    let lines = report.modules.as_slice();
+    let count = starts.lines().len();
+    if lines.len() != count + told.len() {
+        return Ok(false);
+    }
+    if !are_lines(&lines[..count], starts.lines()) {
+        return Ok(false);
+    }
+    let next = Next::behind(alloc, plan.code_words, starts.modules())?;
+    follow(alloc, plan, modules, next, &lines[count..], &told)
 }
