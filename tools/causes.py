@@ -32,6 +32,7 @@ MEANINGS = {
     "units N": "the guest ran {0} units",
     "steps N": "the guest ran {0} instructions, the tries of checks that met an update among them",
     "report 1": "a report begins", "end": "the report is whole",
+    "valid": "the report that was judged is valid for the plan, or the bare file, and the modules",
     "sim 1": "a simulation begins",
     "updater idle": "no update was under way at its end",
     "updater epoch": "an update was before its store of EPOCH",

@@ -15,6 +15,7 @@ pub mod Bare
 pub mod Elf
 pub mod Import
 pub mod Instr
+pub mod Judge
 pub mod Link
 pub mod Place
 pub mod Plan

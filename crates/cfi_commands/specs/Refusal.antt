@@ -2,13 +2,14 @@
 use Rattle.std.specs.Prelude.{ℕ, List, ◌++◌, codes}
 use Rattle.std.specs.Fmt.{decimal}
 use Rattle.cfi_commands.specs.declared.refusal.Refusal.{Refusal}
-use Rattle.cfi_commands.specs.declared.refusal.Refusal.TheVariants.{Bare, Elf, Aux, Instr, Asm, Link, Import, Plan, Place, Verify, Entry, Sim}
+use Rattle.cfi_commands.specs.declared.refusal.Refusal.TheVariants.{Bare, Elf, Aux, Instr, Asm, Link, Import, Plan, Place, Verify, Entry, Sim, Report, Judge}
 use Rattle.cfi_commands.specs.Asm.{asm_text}
 use Rattle.cfi_commands.specs.Aux.{aux_text}
 use Rattle.cfi_commands.specs.Bare.{bare_text}
 use Rattle.cfi_commands.specs.Elf.{elf_text}
 use Rattle.cfi_commands.specs.Import.{import_text}
 use Rattle.cfi_commands.specs.Instr.{instr_text}
+use Rattle.cfi_commands.specs.Judge.{judge_text}
 use Rattle.cfi_commands.specs.Link.{link_text}
 use Rattle.cfi_commands.specs.Place.{place_text}
 use Rattle.cfi_commands.specs.Plan.{plan_text}
@@ -28,3 +29,5 @@ refusal_text (Place fault) = codes "place " ++ place_text fault
 refusal_text (Verify fault) = verify_text fault
 refusal_text (Entry guest) = codes "entry NoEntry " ++ decimal guest
 refusal_text (Sim line) = codes "sim BadEvent " ++ decimal line
+refusal_text (Report line) = codes "report Syntax " ++ decimal line
+refusal_text (Judge part) = codes "judge " ++ judge_text part

@@ -7,6 +7,7 @@ use crate::bare::put_bare;
 use crate::elf::put_elf;
 use crate::import::put_import;
 use crate::instr::put_instr;
+use crate::judge::{ReportPart, put_judge};
 use crate::link::put_link;
 use crate::place::put_place;
 use crate::plan::put_plan;
@@ -50,6 +51,10 @@ pub enum Refusal {
     Entry(u32),
     /// As a schedule, of which the line of this number has no event.
     Sim(u32),
+    /// As a report, of which the line of this number is the first that is none, or is missing.
+    Report(u32),
+    /// As a report that is valid: this part of it is not.
+    Judge(ReportPart),
 }
 
 // Appends the words of a refusal, and where no memory is left perhaps not all.
@@ -94,6 +99,11 @@ fn put_words(text: &mut String, refusal: &Refusal) -> Result<(), AllocError>
         Refusal::Verify(fault) => put_verify_fault(text, *fault),
         Refusal::Entry(guest) => write!(text, "entry NoEntry {guest}"),
         Refusal::Sim(line) => write!(text, "sim BadEvent {line}"),
+        Refusal::Report(line) => write!(text, "report Syntax {line}"),
+        Refusal::Judge(part) => {
+            text.push_str("judge ")?;
+            put_judge(text, *part)
+        }
     }
 }
 

@@ -59,7 +59,8 @@ command_from (name ∷ input ∷ output ∷ []) =
     else (if bytes_eq name (codes "sim") then Some (commands.Sim input output)
     else (if bytes_eq name (codes "gen") then drawing_in input output
     else (if bytes_eq name (codes "stub") then Some (commands.Stub input output)
-    else (if bytes_eq name (codes "link") then Some (commands.Link input (output ∷ [])) else None)))))
+    else (if bytes_eq name (codes "judge") then Some (commands.Judge input output)
+    else (if bytes_eq name (codes "link") then Some (commands.Link input (output ∷ [])) else None))))))
 command_from (name ∷ output ∷ input ∷ more ∷ rest) =
     if bytes_eq name (codes "link") then Some (commands.Link output (input ∷ more ∷ rest)) else None
 
@@ -80,6 +81,7 @@ from_spelled (commands.Graph plan) number = refl
 from_spelled (commands.Sim plan schedule) number = refl
 from_spelled (commands.Run input) number = refl
 from_spelled (commands.Stub input output) number = refl
+from_spelled (commands.Judge input report) number = refl
 from_spelled (commands.Gen seed count) number =
     rw (number_in-some (dec_text seed) seed number.0 refl, count_back count number.1 number.2) refl
 

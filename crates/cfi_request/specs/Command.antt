@@ -6,7 +6,7 @@ use Rattle.cfi_text.specs.Decimal.{dec_text}
 use Rattle.cfi_request.specs.declared.command.Command.{Command}
 use Rattle.cfi_request.specs.declared.command.Command.TheVariants as commands
 use Rattle.cfi_word.specs.declared.limits.TheConstants.{MAX_INPUTS}
-use Rattle.cfi_request.specs.Plans.{named_files, named_files_and, run_files}
+use Rattle.cfi_request.specs.Plans.{judged_files, named_files, named_files_and, run_files}
 
 -- the word that names a command, and the words after it
 abbrev pub command_word : Command → List ℕ
@@ -20,6 +20,7 @@ command_word (commands.Sim plan schedule) = codes "sim"
 command_word (commands.Run input) = codes "run"
 command_word (commands.Gen seed count) = codes "gen"
 command_word (commands.Stub input output) = codes "stub"
+command_word (commands.Judge input report) = codes "judge"
 
 -- the operands of a command, in its order
 abbrev pub operands_of : Command → List (List ℕ)
@@ -33,6 +34,7 @@ operands_of (commands.Sim plan schedule) = plan ∷ schedule ∷ []
 operands_of (commands.Run input) = input ∷ []
 operands_of (commands.Gen seed count) = dec_text seed ∷ dec_text count ∷ []
 operands_of (commands.Stub input output) = input ∷ output ∷ []
+operands_of (commands.Judge input report) = input ∷ report ∷ []
 
 -- a seed, and a number of modules that are drawn of it
 abbrev pub AreDrawnOf : (seed count : ℕ) → Type 0
@@ -72,13 +74,16 @@ inputs_of (commands.Sim plan schedule) = plan ∷ []
 inputs_of (commands.Run input) = input ∷ []
 inputs_of (commands.Gen seed count) = []
 inputs_of (commands.Stub input output) = input ∷ []
+inputs_of (commands.Judge input report) = input ∷ []
 
--- the files that it reads after them, in order: those that its inputs, of these bytes, name, and then a schedule
+-- the files that it reads after them, in order: those that its inputs, of these bytes, name, and then a schedule or a
+-- report
 abbrev pub more_of : Command → (files : List (List ℕ)) → List (List ℕ)
 more_of (commands.Verify plan) (bytes ∷ []) = named_files bytes
 more_of (commands.Graph plan) (bytes ∷ []) = named_files bytes
 more_of (commands.Sim plan schedule) (bytes ∷ []) = named_files_and bytes schedule
 more_of (commands.Run input) (bytes ∷ []) = run_files bytes
+more_of (commands.Judge input report) (bytes ∷ []) = judged_files bytes report
 more_of command files = []
 
 -- the file that a command saves, where it saves one
@@ -93,3 +98,4 @@ saved_name (commands.Sim plan schedule) = None
 saved_name (commands.Run input) = None
 saved_name (commands.Gen seed count) = None
 saved_name (commands.Stub input output) = Some output
+saved_name (commands.Judge input report) = None

@@ -10,7 +10,7 @@ use Rattle.cfi_request.specs.declared.reading.Unread.{Unread}
 
 -- what is printed where the words are no command
 abbrev pub usage_line : List ℕ
-usage_line = codes "usage: cfi asm|list|instrument|link|verify|graph|sim|run|gen|stub\n"
+usage_line = codes "usage: cfi asm|list|instrument|link|verify|graph|sim|run|gen|stub|judge\n"
 
 -- the file, and why it was not read
 abbrev pub unread_line : (name : List ℕ) → Cause → List ℕ

@@ -1,5 +1,5 @@
 -- The files that a plan names.
-use Rattle.std.specs.Prelude.{ℕ, Bool, nat_eq, List, [], ◌∷◌, ◌++◌, map, codes, if◌then◌else◌, Result, Ok, Err}
+use Rattle.std.specs.Prelude.{ℕ, ◌%◌, ◌==◌, Bool, nat_eq, List, length, [], ◌∷◌, ◌++◌, map, codes, if◌then◌else◌, Result, Ok, Err}
 use Rattle.std.specs.List.{starts_with}
 use Rattle.cfi_plan.specs.declared.plan.Plan.{Plan}
 use Rattle.cfi_plan.specs.declared.fault.PlanFault.{PlanFault}
@@ -34,3 +34,10 @@ begins_as_plan bytes = starts_with nat_eq bytes (codes "plan ")
 -- the files that a file of these bytes names where it is to be run
 abbrev pub run_files : (bytes : List ℕ) → List (List ℕ)
 run_files bytes = if begins_as_plan bytes then named_files bytes else []
+
+-- the files that a file of these bytes names where a report of its run is judged, and the report's behind them; there
+-- are none where it is no plan, or a bare file that is no whole words
+abbrev pub judged_files : (bytes report : List ℕ) → List (List ℕ)
+judged_files bytes report =
+    if begins_as_plan bytes then named_files_and bytes report
+    else (if length bytes % 4 == 0 then report ∷ [] else [])

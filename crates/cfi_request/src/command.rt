@@ -5,7 +5,7 @@ ghost use Rattle.cfi_request.specs.Reading.{IsShort};
 
 use crate::drawing::drawing;
 use crate::names::{
-    copies_of, named_files, named_files_and, names_of, one_name, run_files, text_of,
+    copies_of, judged_files, named_files, named_files_and, names_of, one_name, run_files, text_of,
 };
 use crate::reading::only;
 use crate::split::split_words;
@@ -78,6 +78,13 @@ pub enum Command {
         /// The file of the module with stubs.
         output: Text,
     },
+    /// Judges a report of a plan's run, or of a bare file's.
+    Judge {
+        /// The plan's file, or the bare one.
+        input: Text,
+        /// The report's file.
+        report: Text,
+    },
 }
 
 impl Command {
@@ -96,6 +103,7 @@ impl Command {
             Command::Run { input } => one_name(alloc, input),
             Command::Gen { .. } => Ok(Vec::new(alloc)),
             Command::Stub { input, .. } => one_name(alloc, input),
+            Command::Judge { input, .. } => one_name(alloc, input),
         }
     }
 
@@ -119,6 +127,7 @@ impl Command {
             Command::Run { .. } => run_files(alloc, only(files)),
             Command::Gen { .. } => Ok(Vec::new(alloc)),
             Command::Stub { .. } => Ok(Vec::new(alloc)),
+            Command::Judge { report, .. } => judged_files(alloc, only(files), report),
         }
     }
 }
@@ -174,6 +183,12 @@ fn binary(
     }
     if name == "stub" {
         return Ok(Some(Command::Stub { input, output }));
+    }
+    if name == "judge" {
+        return Ok(Some(Command::Judge {
+            input,
+            report: output,
+        }));
     }
     Ok(None)
 }

@@ -2,7 +2,7 @@
 
 ghost use Rattle.std.specs.Prelude.{◌≡◌, ◌≤◌, ◌∷◌, [], length, map, IfOk};
 ghost use Rattle.cfi_word.specs.declared.limits.TheConstants.{MAX_FILE_BYTES};
-ghost use Rattle.cfi_request.specs.Plans.{named_files, named_files_and, begins_as_plan, run_files};
+ghost use Rattle.cfi_request.specs.Plans.{named_files, named_files_and, begins_as_plan, run_files, judged_files};
 
 use cfi_plan::{PlanFault, PlanModule, read_plan};
 use cfi_values::Text;
@@ -99,6 +99,22 @@ pub fn run_files(alloc: Global, bytes: &[u8]) -> Result<Vec<Text>, AllocError>
 {
     if begins_as_plan(bytes) {
         return named_files(alloc, bytes);
+    }
+    Ok(Vec::new(alloc))
+}
+
+/// The files that a file of these bytes names where a report of its run is judged, in order, and then the report's.
+///
+/// None where it is no plan, or a bare file that is no whole words: then it is refused before the report is read.
+pub fn judged_files(alloc: Global, bytes: &[u8], report: &Text) -> Result<Vec<Text>, AllocError>
+    requires short { length bytes.now ≤ MAX_FILE_BYTES }
+    ensures { IfOk result (λ names. names.items ≡ judged_files bytes.now report.now) }
+{
+    if begins_as_plan(bytes) {
+        return named_files_and(alloc, bytes, report);
+    }
+    if bytes.len() % 4 == 0 {
+        return one_name(alloc, report);
     }
     Ok(Vec::new(alloc))
 }

@@ -80,7 +80,7 @@ pub fn line_of(status: u8, line: String) -> Output
 pub fn usage_output(alloc: Global) -> Result<Output, AllocError>
     ensures { IfOk result (λ output. output ≡ outputs.Print USAGE usage_line) }
 {
-    let line = "usage: cfi asm|list|instrument|link|verify|graph|sim|run|gen|stub\n";
+    let line = "usage: cfi asm|list|instrument|link|verify|graph|sim|run|gen|stub|judge\n";
     Ok(line_of(USAGE, line.to_string(alloc)?))
 }
 

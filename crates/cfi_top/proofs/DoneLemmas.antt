@@ -110,6 +110,7 @@ is_run (commands.Verify plan) (bytes ∷ []) more it text made = absurd made
 is_run (commands.Graph plan) (bytes ∷ []) more it text made = absurd made
 is_run (commands.Sim plan schedule) (bytes ∷ []) more it text made = absurd made
 is_run (commands.Stub input output) (bytes ∷ []) more it text made = absurd made
+is_run (commands.Judge input report) (bytes ∷ []) more it text made = absurd made
 is_run command files more it text made = absurd made
 
 -- nothing is kept of nothing

@@ -5,14 +5,17 @@ pub mod OpeningLemmas
 pub mod RunLemmas
 pub mod GeneratingLemmas
 pub mod SimLemmas
+pub mod JudgingLemmas
 pub mod OutcomeLemmas
 pub mod ReadyLemmas
 pub mod DoneLemmas
 pub mod MadeLemmas
+pub mod JudgedLemmas
 pub mod TopLemmas
 pub mod FilesLemmas
 pub mod ValidLemmas
 pub mod EdgeLemmas
 pub mod HeadlineLemmas
 pub mod PromiseLemmas
+pub mod ReportLemmas
 mod TracingLemmas

@@ -45,6 +45,7 @@ saved_is_output (commands.Sim plan schedule) (bytes ∷ []) more name file made 
 saved_is_output (commands.Run input) (bytes ∷ []) more name file made = absurd made
 saved_is_output (commands.Stub input output) (bytes ∷ []) more name file made =
     ap (λ (n : List ℕ). Some n) (sym made.0)
+saved_is_output (commands.Judge input report) (bytes ∷ []) more name file made = absurd made
 saved_is_output (commands.Gen seed count) files more name file made = absurd made
 saved_is_output command files more name file made = absurd made
 
@@ -60,6 +61,7 @@ never_unread (commands.Graph plan) (bytes ∷ []) more unread made = made
 never_unread (commands.Sim plan schedule) (bytes ∷ []) more unread made = made
 never_unread (commands.Run input) (bytes ∷ []) more unread made = made
 never_unread (commands.Stub input output) (bytes ∷ []) more unread made = made
+never_unread (commands.Judge input report) (bytes ∷ []) more unread made = made
 never_unread (commands.Gen seed count) files more unread made = made
 never_unread command files more unread made = made
 

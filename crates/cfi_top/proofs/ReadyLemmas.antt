@@ -1,5 +1,5 @@
 -- What a command comes to where nobody is waited for, and what the run comes to that is made then.
-use Rattle.std.proofs.Common.{◌≡◌, ℕ, List, [], ◌∷◌, sym, subst}
+use Rattle.std.proofs.Common.{ℕ, List, [], ◌∷◌, sym, subst}
 use Rattle.cfi_io.specs.Seen.{ShelfView}
 use Rattle.cfi_request.specs.declared.command.Command.{Command}
 use Rattle.cfi_request.specs.declared.command.Command.TheVariants as commands
@@ -69,6 +69,7 @@ never_usage (commands.Graph plan) (bytes ∷ []) more made = made
 never_usage (commands.Sim plan schedule) (bytes ∷ []) more made = made
 never_usage (commands.Run input) (bytes ∷ []) more made = made
 never_usage (commands.Stub input output) (bytes ∷ []) more made = made
+never_usage (commands.Judge input report) (bytes ∷ []) more made = made
 never_usage (commands.Gen seed count) files more made = made
 never_usage command files more made = made
 

@@ -7,7 +7,7 @@ use Rattle.cfi_bare.specs.declared.fault.BareFault.TheVariants.{Length, Memory}
 use Rattle.cfi_io.specs.Files.{Files}
 use Rattle.std.proofs.lemmas.List.Elements.{All-nil, All-cons}
 use Rattle.cfi_commands.specs.declared.refusal.Refusal.{Refusal}
-use Rattle.cfi_commands.specs.declared.refusal.Refusal.TheVariants.{Bare, Elf, Aux, Instr, Asm, Link, Import, Plan, Place, Verify, Entry, Sim}
+use Rattle.cfi_commands.specs.declared.refusal.Refusal.TheVariants.{Bare, Elf, Aux, Instr, Asm, Link, Import, Plan, Place, Verify, Entry, Sim, Report, Judge}
 use Rattle.cfi_valid.specs.Opening.{IsFirstUnjoined, IsFirstLost}
 use Rattle.cfi_request.specs.declared.command.Command.TheVariants.{Run}
 use Rattle.cfi_request.specs.Reading.{IsShort}
@@ -77,6 +77,8 @@ bare_unrefused name (Link fault) refuses = refuses.2
 bare_unrefused name (Import fault) refuses = refuses.2
 bare_unrefused name (Plan fault) refuses = refuses.2
 bare_unrefused name (Sim line) refuses = refuses.2
+bare_unrefused name (Report line) refuses = refuses.2
+bare_unrefused name (Judge part) refuses = refuses.2
 
 unrefused : (name : List ℕ) (refusal : Refusal) → ¬ Refuses (Run (codes "a")) (hello_bytes ∷ []) [] name refusal
 unrefused name refusal (inl refuses) = let begins = refuses.0 in absurd (cc)

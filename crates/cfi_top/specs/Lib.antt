@@ -5,9 +5,11 @@ pub mod Opening
 pub mod Running
 pub mod Generating
 pub mod Simulating
+pub mod Judging
 pub mod Outcome
 pub mod Tracing
 pub mod Top
+pub mod Reports
 pub mod Ready
 pub mod Edges
 pub mod Headline

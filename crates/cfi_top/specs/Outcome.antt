@@ -23,6 +23,7 @@ use Rattle.cfi_io.specs.Seen.{ShelfView}
 use Rattle.cfi_request.specs.Plans.{files_of}
 use Rattle.cfi_top.specs.Opening.{IsNoPlan, IsNamedBad}
 use Rattle.cfi_top.specs.Plans.{IsSaid}
+use Rattle.cfi_top.specs.Judging.{IsJudged, RefusesJudging}
 use Rattle.cfi_top.specs.Generating.{IsGeneratedRun, RefusesGenerated}
 use Rattle.cfi_top.specs.Running.{IsRunOfFile, RefusesRun}
 use Rattle.cfi_top.specs.Simulating.{IsSimOfPlan, RefusesSimulation}
@@ -53,6 +54,7 @@ IsMade (commands.Run input) (bytes ∷ []) more (answers.Ran run text) =
 IsMade (commands.Gen seed count) files more (answers.Ran run text) = IsGeneratedRun seed count run text
 IsMade (commands.Stub input output) (bytes ∷ []) more (answers.Save name file) =
     (name ≡ output) × IsStubbedFile bytes file
+IsMade (commands.Judge input report) (bytes ∷ []) more (answers.Print text) = IsJudged bytes more text
 IsMade command files more answer = ⊥
 
 -- the bytes are a plan, and the file of this name, which one of its modules has, is refused for the first fault of the
@@ -86,6 +88,8 @@ Refuses (commands.Run input) (bytes ∷ []) more name refusal = RefusesRun input
 Refuses (commands.Gen seed count) files more name refusal = RefusesGenerated seed count name refusal
 Refuses (commands.Stub input output) (bytes ∷ []) more name refusal =
     (name ≡ input) × IsStubbingFault bytes refusal
+Refuses (commands.Judge input report) (bytes ∷ []) more name refusal =
+    RefusesJudging input report bytes more name refusal
 Refuses command files more name refusal = ⊥
 
 -- no refusal stands in its files

@@ -19,11 +19,12 @@ use Rattle.cfi_top.specs.Answer.{refused_line, output_of, run_in, kept_at}
 use Rattle.cfi_request.specs.Command.{IsCommand, inputs_of, more_of, saved_name}
 use Rattle.cfi_request.specs.Outside.{Holds, HasFailedToSave, IsStarved, IsDelivered}
 use Rattle.cfi_io.specs.Seen.{ShelfView, SinkView}
-use Rattle.cfi_request.specs.Plans.{named_files, named_files_and, run_files}
+use Rattle.cfi_request.specs.Plans.{judged_files, named_files, named_files_and, run_files}
 use Rattle.cfi_request.specs.Reading.{AreRead, IsShort}
 use Rattle.cfi_request.specs.declared.reading.Unread.{Unread}
 use Rattle.cfi_top.specs.Outcome.{IsVerifiedPlan, IsGraphOfPlan, Refuses, IsUnrefused, IsAllRead, IsFirstUnread, IsAnswer}
 use Rattle.cfi_top.specs.Generating.{IsGeneratedRun}
+use Rattle.cfi_top.specs.Judging.{IsJudged}
 use Rattle.cfi_top.specs.Running.{IsRunOfFile, RunsGuests}
 use Rattle.cfi_top.specs.Simulating.{IsSimOfPlan}
 
@@ -120,6 +121,11 @@ HasGraphed = HasSaid named_files IsGraphOfPlan
 -- the schedule, read behind the modules' files, makes a valid simulation of the plan `input`, and the sink has its text
 abbrev pub HasSimulated : (input schedule : List ℕ) → (shelf : ShelfView) → (sink sink' : SinkView) → Type 0
 HasSimulated input schedule = HasSaid (λ bytes. named_files_and bytes schedule) IsSimOfPlan input
+
+-- the report, read behind the modules' files, is a valid one of the plan and the modules of the file `input`, or of that
+-- bare file, and the sink has the line that says so
+abbrev pub HasJudged : (input report : List ℕ) → (shelf : ShelfView) → (sink sink' : SinkView) → Type 0
+HasJudged input report = HasSaid (λ bytes. judged_files bytes report) IsJudged input
 
 -- a command's files were read and refused for the first fault, and the sink has the line that says so
 pub record IsRefused (words : List (List ℕ)) (shelf : ShelfView) (sink sink' : SinkView) : Type 0 where

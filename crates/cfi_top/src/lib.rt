@@ -2,9 +2,10 @@
 //! waits for nobody: all commands but `run` and `gen`. `traced` is that of a second program, which tells a schedule
 //! event by event.
 //!
-//! Stands on `cfi_request`, `cfi_commands`, `cfi_gen`, `cfi_engine`, `cfi_sim`, `cfi_bare`, `cfi_plan`, `cfi_report`
-//! and what these stand on; `cfi` and `cfi_trace` call it. Proved: what is reported of a run was concluded, of the plan
-//! and the modules that the file says, or of those that are drawn of the seed, and is valid; what is printed of a
+//! Stands on `cfi_request`, `cfi_commands`, `cfi_gen`, `cfi_engine`, `cfi_sim`, `cfi_judge`, `cfi_bare`, `cfi_plan`,
+//! `cfi_report` and what these stand on; `cfi` and `cfi_trace` call it. Proved: what is reported of a run was concluded,
+//! of the plan and the modules that the file says, or of those that are drawn of the seed, and is valid; a report is
+//! judged valid exactly where it is, so the report of a run is, if it is short enough to be read; what is printed of a
 //! simulation is the text of a valid one; what is listed is the listing of the object's text, what is said of a plan
 //! the stated text of its modules; what is saved is the written object that the source or the modules make; the
 //! headline, promise by promise, of each guest of a run that was concluded; each status and its text, with its cause;
@@ -15,6 +16,7 @@
 mod answer;
 mod generating;
 pub mod headline;
+mod judging;
 pub mod laws;
 mod plans;
 mod program;

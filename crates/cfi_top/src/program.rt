@@ -14,7 +14,7 @@ ghost use Rattle.cfi_top.specs.Answer.{kept_at};
 ghost use Rattle.cfi_top.specs.Ready.{IsReady, IsServed};
 ghost use Rattle.cfi_top.specs.Running.{RunsGuests};
 ghost use Rattle.cfi_top.specs.inner.Working.{ComesTo};
-ghost use Rattle.cfi_top.specs.Top.{Ends, HasRun, HasGenerated, HasSimulated, HasListed, HasAssembled, HasInstrumented, HasStubbed, HasLinked, HasVerified, HasGraphed, IsRefused, IsStopped, IsSavedBy, IsUnsaved, Saves, Runs, IsValid, IsSteady};
+ghost use Rattle.cfi_top.specs.Top.{Ends, HasRun, HasGenerated, HasSimulated, HasListed, HasAssembled, HasInstrumented, HasStubbed, HasLinked, HasVerified, HasGraphed, HasJudged, IsRefused, IsStopped, IsSavedBy, IsUnsaved, Saves, Runs, IsValid, IsSteady};
 
 use crate::answer::{Answer, output_of};
 use crate::ready::run_ready;
@@ -178,8 +178,9 @@ fn run_words<F: Shelf, S: Sink, G: Gate, R: Threads + Wait + Sync>(
 /// verifies the modules of a plan and prints a line for each; `graph PLAN` does so and prints the groups of their
 /// policy. `sim PLAN SCHEDULE` makes the events of a schedule, one by one, and prints what they come to. `run FILE`
 /// runs a plan, or a bare file, whose guests run on threads of their own beside the script, and prints the report. `gen
-/// SEED COUNT` runs 2 to 32 modules that are drawn of a seed, and prints the summary; it reads no file. It waits for a
-/// run alone: all else is done by `serve`. Status 0 where the command's bytes were written whole, 1 where the words are
+/// SEED COUNT` runs 2 to 32 modules that are drawn of a seed, and prints the summary; it reads no file. `judge FILE
+/// REPORT` says whether a report is a valid one of a plan, or of a bare file. It waits for a run alone: all else is done
+/// by `serve`. Status 0 where the command's bytes were written whole, 1 where the words are
 /// no command, 2 where the shelf failed, 3 where a file is not there or too long, 4 where the sink failed, or the shelf
 /// where a file was saved, 5 where a file was refused, 6 where no memory was left.
 pub fn top<F: Shelf, S: Sink, G: Gate, R: Threads + Wait + Sync>(
@@ -274,6 +275,13 @@ pub fn top<F: Shelf, S: Sink, G: Gate, R: Threads + Wait + Sync>(
 
     ensures graphed { (input : List ℕ) → IsCommand (texts words.now) (commands.Graph input) →
         result.status ≡ DONE → HasGraphed input
+        (F.seen shelf.old)
+        (S.seen sink.old)
+        (S.seen sink.new) }
+
+    ensures judged { (input report : List ℕ) →
+        IsCommand (texts words.now) (commands.Judge input report) →
+        result.status ≡ DONE → HasJudged input report
         (F.seen shelf.old)
         (S.seen sink.old)
         (S.seen sink.new) }

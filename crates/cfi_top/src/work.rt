@@ -8,6 +8,7 @@ ghost use Rattle.cfi_top.specs.Running.{RunsGuests};
 ghost use Rattle.cfi_top.specs.inner.Working.{ComesTo, IsToRun, IsReadToRun, IsReadyFor};
 
 use crate::answer::Answer;
+use crate::judging::judge_file;
 use crate::plans::{graph, sim, verify};
 use crate::refused::refused;
 use cfi_commands::{CommandFault, assembled, instrumented, linked, listing_of, stubbed};
@@ -148,6 +149,9 @@ fn work(
         Command::Gen { seed, count } => Ok(to_run(Command::Gen { seed, count }, files, more)),
         Command::Stub { input, output } => {
             Ok(Outcome::Answer(stub(alloc, input, output, only(&files))?))
+        }
+        Command::Judge { input, report } => {
+            Ok(Outcome::Answer(judge_file(alloc, input, report, only(&files), more)?))
         }
     }
 }

@@ -1,5 +1,6 @@
 use Rattle.cfi_top.proofs.PromiseLemmas.{ask_in_force, keep_policies_in, enter_units, store_inside}
 use Rattle.cfi_top.proofs.DoneLemmas.{done_of, run_only, if_some}
+use Rattle.cfi_top.proofs.JudgedLemmas.{judged_of}
 use Rattle.cfi_top.proofs.MadeLemmas.{ran_of, generated_of, simulated_of, listed_of, assembled_of, instrumented_of, stubbed_of, linked_of, verified_of, graphed_of}
 use Rattle.cfi_top.proofs.TopLemmas.{usage_of, unfit_of, read_fault_of, missed_of, stopped_of, write_fault_of, refused_of}
 use Rattle.cfi_top.proofs.FilesLemmas.{valid_shelf, elsewhere_of, same_of, within_of}
@@ -50,6 +51,9 @@ returns-clause-verified g c = verified_of _ _ _ _ _ _ _ c.run_words.ensures.ends
 
 pub returns-clause-graphed : goal.returns-clause-graphed
 returns-clause-graphed g c = graphed_of _ _ _ _ _ _ _ c.run_words.ensures.ends
+
+pub returns-clause-judged : goal.returns-clause-judged
+returns-clause-judged g c = judged_of _ _ _ _ _ _ _ c.run_words.ensures.ends
 
 pub returns-clause-done : goal.returns-clause-done
 returns-clause-done g c = λ e. done_of _ _ _ _ _ _ _ e c.run_words.ensures.ends
