@@ -9,7 +9,8 @@ ghost use Rattle.cfi_graph.specs.Named.{entry_among};
 ghost use Rattle.cfi_graph.specs.Shaped.{IsShaped};
 ghost use Rattle.cfi_graph.specs.inner.Imports.{imports_in};
 
-use crate::imports::{Imports, imports_of};
+use crate::imports::{Imports, imports_named};
+use crate::names::names_in;
 use cfi_aux::{Kind, Placed};
 use cfi_unit::Fill;
 use cfi_values::Bytes;
@@ -80,7 +81,8 @@ pub fn cells(alloc: Global, live: &[Placed], modules: &[Placed]) -> Result<Vec<F
     requires data { All HasData modules.now }
     ensures { IfOk result (λ cells. cells.items ≡ cells_of live.now modules.now) }
 {
-    let imports = imports_of(alloc, live)?;
+    let names = names_in(alloc, modules)?;
+    let imports = imports_named(alloc, live, &names)?;
     let mut cells = Vec::new(alloc);
     for placed in modules {
         add_cells(alloc, &imports, placed, &mut cells)?;

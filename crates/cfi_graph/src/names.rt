@@ -90,7 +90,8 @@ impl<'a> Names<'a> {
 
     // Adds the names that the branches import.
     fn add_imports(&mut self, branches: &'a [Kind]) -> Result<(), AllocError>
-        ensures { OnOk result (HasImports self.new branches.now) }
+        ensures kept { OnOk result (Keeps self.old self.new) }
+        ensures has { OnOk result (HasImports self.new branches.now) }
     {
         for kind in branches {
             self.add_import(kind)?;
@@ -125,6 +126,18 @@ pub(crate) fn marks_of(alloc: Global, placed: &Placed) -> Result<Marks, AllocErr
         marks.add(function.name.as_str());
     }
     Ok(marks)
+}
+
+// The names that the modules import.
+pub(crate) fn names_in<'a>(alloc: Global, modules: &'a [Placed]) -> Result<Names<'a>, AllocError>
+    ensures { IfOk result (λ names. (m : PlacedModule) → Contains modules.now m →
+        HasImports names m.branches) }
+{
+    let mut names = Names::new(alloc)?;
+    for placed in modules {
+        names.add_imports(placed.branches.as_slice())?;
+    }
+    Ok(names)
 }
 
 // The names whose functions are looked for when a module is added: those that it imports, and those that branches of

@@ -23,6 +23,7 @@ pub mod ClosedLemmas
 pub mod ReadLemmas
 pub mod ImageLemmas
 pub mod PrefixLemmas
+pub mod CellLemmas
 pub mod GrowthLemmas
 pub mod PreparedLemmas
 pub mod MadeLemmas

@@ -58,7 +58,8 @@ module _ (code_words : ℕ) (placed : List Placed) (series : IsSeries code_words
         last = omega (arith, room.low, j.2.behind.data_base, f.ends);
       }
 
+  pub each_lies : All (λ (p : Placed). LiesInData (fill_of p)) placed
+  each_lies = λ k d within. data_inside k (get_or placed k d) (slice_get-get_or placed k d within)
+
   pub data_lies : All LiesInData (fills_of placed)
-  data_lies =
-      All-map LiesInData fill_of placed
-      (λ k d within. data_inside k (get_or placed k d) (slice_get-get_or placed k d within))
+  data_lies = All-map LiesInData fill_of placed each_lies

@@ -5,8 +5,9 @@ ghost use Rattle.cfi_model.specs.Data.{LiesInData};
 ghost use Rattle.cfi_modules.specs.Fills.{fills_of};
 ghost use Rattle.cfi_aux.specs.declared.modules.Module.{Module};
 ghost use Rattle.cfi_aux.specs.declared.placed.Placed.{Placed};
+ghost use Rattle.cfi_graph.specs.Cell.{cells_of, HasData};
 ghost use Rattle.cfi_graph.specs.Reading.{HaveGraph};
-ghost use Rattle.cfi_graph.specs.Shaped.{AreShaped};
+ghost use Rattle.cfi_graph.specs.Shaped.{AreShaped, IsShaped};
 ghost use Rattle.cfi_policy.specs.Image.{HaveImage};
 ghost use Rattle.cfi_verify.specs.Example.{loop_module};
 ghost use Rattle.cfi_word.specs.declared.limits.TheConstants.{MIN_CODE_WORDS};
@@ -78,6 +79,17 @@ pub fn series_are_closed_below()
         IsSeries code_words placed → IsSeries code_words (take n placed) }
     ensures fills { (code_words : ℕ) (placed : List Placed) →
         IsSeries code_words placed → All LiesInData (fills_of placed) }
+{}
+
+/// The modules of a series are shaped, their data ends within 32 bits, and their cells lie inside private data, whatever
+/// their names mean.
+pub fn series_have_cells()
+    ensures shaped { (code_words : ℕ) (placed : List Placed) →
+        IsSeries code_words placed → All IsShaped placed }
+    ensures data { (code_words : ℕ) (placed : List Placed) →
+        IsSeries code_words placed → All HasData placed }
+    ensures cells { (code_words : ℕ) (live placed : List Placed) →
+        IsSeries code_words placed → All LiesInData (cells_of live placed) }
 {}
 
 /// Some modules are loaded so: the one module of the one word `j .`.

@@ -2,6 +2,7 @@
 
 ghost use Rattle.std.specs.Prelude.{◌≡◌, ◌<◌, [], ◌⊎◌, length, OnOk, OnErr, IfOk, IfErr, Err};
 ghost use Rattle.cfi_aux.specs.declared.placed.Placed.{Placed as PlacedModule};
+ghost use Rattle.cfi_graph.specs.Cell.{cells_of};
 ghost use Rattle.cfi_graph.specs.Reading.{HaveGraph};
 ghost use Rattle.cfi_policy.specs.Image.{HaveImage};
 ghost use Rattle.cfi_modules.specs.declared.fault.JoinFault.TheVariants.{Memory};
@@ -14,10 +15,13 @@ use crate::fault::JoinFault;
 use crate::index::{Index, index_of, with_last};
 use crate::joining::join;
 use crate::laws::{
-    loaded_have_closed_images, loaded_have_image, series_are_loaded, series_have_graph,
+    loaded_have_closed_images, loaded_have_image, series_are_loaded, series_have_cells,
+    series_have_graph,
 };
 use cfi_aux::{Module, Placed};
+use cfi_graph::cells;
 use cfi_policy::image_of;
+use cfi_unit::Fill;
 use cfi_word::{Image, Layout};
 use std::alloc::{AllocError, Global};
 use std::marker::Model;
@@ -126,6 +130,16 @@ impl Series {
         ensures ordered { IfOk result (IsOrderedImage self.now.placed) }
     {
         image_of(self.alloc, self.modules(), &self.layout())
+    }
+
+    /// The cells of late imports, with what their names mean among the modules.
+    pub fn cells(&self) -> Result<Vec<Fill>, AllocError>
+        ensures { IfOk result (λ cells.
+            cells.items ≡ cells_of self.now.placed self.now.placed) }
+    {
+        series_have_cells();
+        let modules = self.modules();
+        cells(self.alloc, modules, modules)
     }
 
     /// The layout that the modules stand in.

@@ -1,5 +1,4 @@
 -- The addresses of the map of names.
-use Rattle.std.specs.Prelude.{List}
 use Rattle.std.specs.BTreeMap.{get_by}
 use Rattle.std.specs.Cmp.Lexicographic.{slice_cmp}
 use Rattle.std.specs.Ordering.{nat_cmp}

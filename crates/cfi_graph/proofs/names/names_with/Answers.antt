@@ -7,7 +7,7 @@ use Rattle.cfi_graph.proofs.names.names_with.Goals as goal
 
 pub loop-placed-init : goal.loop-placed-init
 loop-placed-init c = record {
-  imports = subst (HasImports c.add_imports.new.self) c.as_slice.ensures c.in_ok-add_imports.ensures;
+  imports = subst (HasImports c.add_imports.new.self) c.as_slice.ensures c.in_ok-add_imports.ensures.has;
   met = first_none (λ m. HasMet c.add_imports.new.self (imports_in c.args.own.now) m.branches) c.args.old.now;
 }
 
