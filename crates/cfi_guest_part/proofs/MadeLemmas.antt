@@ -17,7 +17,7 @@ use Rattle.cfi_unit.specs.declared.log.Stop.TheVariants as stops
 use Rattle.cfi_valid.specs.Course.{Course}
 use Rattle.cfi_valid.specs.FromLaw.{HasPolicies}
 use Rattle.cfi_valid.specs.Guests.{GuestBegins}
-use Rattle.cfi_valid.specs.Loaded.{LoadedModule, start_fills}
+use Rattle.cfi_valid.specs.Loaded.{LoadedModule, Filled, start_fills}
 use Rattle.cfi_valid.specs.Log.{IsLogged}
 use Rattle.cfi_valid.specs.Parts.{ComesTo}
 use Rattle.cfi_valid.specs.Replay.{Replays}
@@ -42,7 +42,7 @@ module _ (c : Course) (t : Tables) (h : History) (code : List ℕ) (of : IsHisto
     address = run.opened.address
 
     abbrev fills : List Fill
-    fills = start_fills loaded
+    fills = start_fills Filled loaded
 
     abbrev start : Raw
     start = raw_opened number address fills
@@ -68,7 +68,7 @@ module _ (c : Course) (t : Tables) (h : History) (code : List ℕ) (of : IsHisto
     s = come.new
 
     unspent : s.stop ≢ Some stops.Fuel
-    unspent = replay_unspent code loaded s.log s.units (opened number address fills) s come.replayed refl
+    unspent = replay_unspent Filled code loaded s.log s.units (opened number address fills) s come.replayed refl
 
     one_epoch : c.end.epoch ≡ c.plan.first → h.count + h.ahead ≡ 1
     one_epoch same = omega (arith, same, of.first, of.force, of.ahead)
@@ -93,16 +93,16 @@ module _ (c : Course) (t : Tables) (h : History) (code : List ℕ) (of : IsHisto
         subst (λ (e : List ℕ). GuestBegins c.plan loaded e address)
         (some_same run.opened.entry entry (sym run.opened.entry_is ∙ named)) run.opened.begins
 
-    abbrev come_to : ComesTo c part s
+    abbrev come_to : ComesTo Filled c part s
     come_to = record {
       address = address;
       begins = begins;
       code = code;
       is_code = of.is_code;
       replay = subst
-          (λ (log : List Log). Replays code loaded log guest.base.units (opened number address fills) s)
+          (λ (log : List Log). Replays Filled code loaded log guest.base.units (opened number address fills) s)
           (sym shown.log)
-          (subst (λ (n : ℕ). Replays code loaded s.log n (opened number address fills) s) (sym shown.units)
+          (subst (λ (n : ℕ). Replays Filled code loaded s.log n (opened number address fills) s) (sym shown.units)
           come.replayed);
     }
 

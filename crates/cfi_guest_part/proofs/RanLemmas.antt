@@ -12,7 +12,7 @@ use Rattle.cfi_model.proofs.EndLemmas.{effect_units}
 use Rattle.cfi_model.proofs.ShownLemmas.{reached, shown_log, shows_running}
 use Rattle.cfi_unit.specs.declared.log.Log.{Log}
 use Rattle.cfi_valid.specs.FromLaw.{BringsDue, HasPolicies}
-use Rattle.cfi_valid.specs.Loaded.{LoadedModule, fills_between}
+use Rattle.cfi_valid.specs.Loaded.{LoadedModule, Filled, fills_between}
 use Rattle.cfi_valid.specs.Replay.{given_by}
 use Rattle.cfi_valid.specs.Running.{HasReplayed}
 use Rattle.cfi_valid.proofs.LawLemmas.{step_unit}
@@ -21,10 +21,10 @@ use Rattle.cfi_guest_part.specs.Ran.{AreBrought}
 
 -- an answer looks at the log alone
 brings_same : (loaded : List LoadedModule) (reply : Option Reply) (a b : State) → a.log ≡ b.log
-    → BringsDue loaded a reply → BringsDue loaded b reply
+    → BringsDue Filled loaded a reply → BringsDue Filled loaded b reply
 brings_same loaded None a b same due = tt
 brings_same loaded (Some reply) a b same due = λ free.
-    due free ∙ ap (λ (log : List Log). fills_between (given_by log) reply.policy loaded) same
+    due free ∙ ap (λ (log : List Log). fills_between Filled (given_by log) reply.policy loaded) same
 
 -- what the policy machine runs, one list of ends after the other
 runs_join : (h : History) (code : List ℕ) (xs ys : List End) (old mid new : State) → Runs h code (xs ++ []) old mid
@@ -36,20 +36,20 @@ runs_join h code (x ∷ xs) ys old mid new runs then =
 module _ (h : History) (code : List ℕ) (loaded : List LoadedModule) (known : IsHistory h code)
     (policies : HasPolicies (length code) loaded h) (start : State) where
   abbrev Replayed : State → Type 0
-  Replayed s = HasReplayed code loaded s.units start s
+  Replayed s = HasReplayed Filled code loaded s.units start s
 
   -- what an access makes of the replay
   unit_more : (ended : Bool) (end : End) (old new : State) → Runs h code (cond ended (end ∷ []) [] ++ []) old new
-      → IsReady h old → BringsDue loaded old end.reply → Replayed old → Replayed new
+      → IsReady h old → BringsDue Filled loaded old end.reply → Replayed old → Replayed new
   unit_more true end old new runs ready due before =
       let mid : State = runs.0 in
       let step = runs.1 in
-      let unit = step_unit h code loaded end old mid known policies ready step due in
-      let more : HasReplayed code loaded (old.units + 1) start mid =
-      replay_goes_on code loaded old.units start old mid before unit in
+      let unit = step_unit Filled h code loaded end old mid known policies ready step due in
+      let more : HasReplayed Filled code loaded (old.units + 1) start mid =
+      replay_goes_on Filled code loaded old.units start old mid before unit in
       let count : mid.units ≡ old.units + 1 =
       ap (λ (s : State). s.units) step.is ∙ effect_units step.unit _ _ step.reply old in
-      subst Replayed (sym runs.2) (subst (λ (n : ℕ). HasReplayed code loaded n start mid) (sym count) more)
+      subst Replayed (sym runs.2) (subst (λ (n : ℕ). HasReplayed Filled code loaded n start mid) (sym count) more)
   unit_more false end old new runs ready due before = subst Replayed (sym runs) before
 
   -- after some accesses

@@ -16,21 +16,22 @@ use Rattle.cfi_report.specs.declared.report.GuestPart.{GuestPart}
 use Rattle.cfi_valid.specs.Course.{Course}
 use Rattle.cfi_valid.specs.FromLaw.{BringsDue, HasPolicies}
 use Rattle.cfi_valid.specs.Guests.{GuestBegins}
-use Rattle.cfi_valid.specs.Loaded.{LoadedModule, placed_modules, start_fills}
+use Rattle.cfi_valid.specs.Loaded.{LoadedModule, placed_modules, start_fills, Filled}
 use Rattle.cfi_guest_part.specs.Part.{IsEndOf, part_of}
 
--- the guest of the number, opened where the plan's guest of this number begins, with the data of the start modules
+-- the guest of the number, opened where the plan's guest of this number begins, with the data of the start modules and
+-- the cells
 pub record IsOpenedAs (plan : Plan) (loaded : List LoadedModule) (number : ℕ) (start : Raw) : Type 0 where
   pub entry : List ℕ
   pub entry_is : slice_get plan.guests number ≡ Some entry
   pub address : ℕ
   pub begins : GuestBegins plan loaded entry address
-  pub is : start ≡ raw_opened number address (start_fills loaded)
+  pub is : start ≡ raw_opened number address (start_fills Filled loaded)
 
--- each answer to an open that succeeds brings the data that the guest lacks
+-- each answer to an open that succeeds brings the data that the guest lacks, and the cells
 abbrev pub AreBrought : List LoadedModule → Raw → List Take → Type 0
 AreBrought loaded r [] = ⊤
-AreBrought loaded r (t ∷ takes) = BringsDue loaded r.base (reply_in t) × AreBrought loaded (take_one r t) takes
+AreBrought loaded r (t ∷ takes) = BringsDue Filled loaded r.base (reply_in t) × AreBrought loaded (take_one r t) takes
 
 -- the history of a course and of its tables, from the first epoch of its plan to the one in force, and the code of all
 -- that was loaded: each epoch's image is that of the modules which its policy finds loaded

@@ -1,17 +1,20 @@
 -- A journal goes on.
-use Rattle.std.proofs.Common.{◌≡◌, ℕ, ◌≤◌, ◌<◌, ◌++◌, Bool, false, cond, List, [], ◌∷◌, refl, sym, ap, subst, ◌∙◌, arith, append_assoc}
-use Rattle.std.specs.Prelude.{nat_le}
+use Rattle.std.proofs.Common.{◌≡◌, ℕ, ◌≤◌, ◌<◌, ◌&&◌, ◌++◌, Bool, false, cond, List, [], ◌∷◌, refl, sym, ap, subst, ◌∙◌, arith, append_assoc}
+use Rattle.std.specs.Prelude.{nat_le, nat_lt, filter}
 use Rattle.std.specs.List.{AllByRecursion}
-use Rattle.std.proofs.lemmas.Bool.{lt-leb}
+use Rattle.std.proofs.lemmas.Bool.{and_right, lt-leb}
 use Rattle.std.proofs.lemmas.List.{append-nil}
 use Rattle.cfi_aux.specs.declared.modules.Module.{Module}
+use Rattle.cfi_graph.specs.Cell.{cells_of}
+use Rattle.cfi_modules.specs.Fills.{fills_of}
 use Rattle.cfi_plan.specs.declared.journal.Entry.{Entry}
 use Rattle.cfi_plan.specs.declared.journal.JournalLine.{JournalLine}
 use Rattle.cfi_plan.specs.declared.journal.JournalLine.TheVariants.{LoadOk, LoadAgain, LoadFull, LoadPlace, LoadVerify, LoadVersions, LoadEpochs, RefreshOk, RefreshVersions, RefreshEpochs}
 use Rattle.cfi_plan.specs.declared.plan.Plan.{Plan}
+use Rattle.cfi_unit.specs.declared.fill.Fill.{Fill}
 use Rattle.cfi_valid.specs.Growth.{IsLater}
 use Rattle.cfi_valid.specs.Journal.{JournalState, IsOutOfEpochs, LineLeads, EntriesLead}
-use Rattle.cfi_valid.specs.Loaded.{LoadedModule, loaded_by}
+use Rattle.cfi_valid.specs.Loaded.{LoadedModule, placed_modules, loaded_by, Cells, Filled, Left, cells_at, with_cells, data_between, start_data, fills_between, start_fills}
 
 -- ---- later states
 
@@ -91,23 +94,58 @@ module _ (plan : Plan) (modules : List Module) where
       later_later old along.0 new (line_later old along.0 entry.what along.1.1)
       (along_later along.0 new entries along.2)
 
--- ---- what a policy finds loaded
+-- ---- what a policy finds loaded, and what a guest is given under it
 
-loaded_append : (policy : ℕ) (xs ys : List LoadedModule) → AllByRecursion (IsAbove policy) ys
-    → loaded_by policy (xs ++ ys) ≡ loaded_by policy xs
-loaded_append policy [] [] above = refl
-loaded_append policy [] (y ∷ ys) above =
-    let not_yet : nat_le y.policy policy ≡ false = lt-leb y.policy policy above.0 in
-    ap (λ (b : Bool). cond b (y ∷ loaded_by policy ys) (loaded_by policy ys)) not_yet
-    ∙ loaded_append policy [] ys above.1
-loaded_append policy (x ∷ xs) ys above =
-    ap (λ (rest : List LoadedModule). cond (nat_le x.policy policy) (x ∷ rest) rest) (loaded_append policy xs ys above)
+-- a test that fails for what came with later policies passes what it passed before
+tested_append : (passes : LoadedModule → Bool) (policy : ℕ)
+    → ((l : LoadedModule) → IsAbove policy l → passes l ≡ false) → (xs ys : List LoadedModule)
+    → AllByRecursion (IsAbove policy) ys → filter passes (xs ++ ys) ≡ filter passes xs
+tested_append passes policy fails [] [] above = refl
+tested_append passes policy fails [] (y ∷ ys) above =
+    ap (λ (b : Bool). cond b (y ∷ filter passes ys) (filter passes ys)) (fails y above.0)
+    ∙ tested_append passes policy fails [] ys above.1
+tested_append passes policy fails (x ∷ xs) ys above =
+    ap (λ (rest : List LoadedModule). cond (passes x) (x ∷ rest) rest)
+    (tested_append passes policy fails xs ys above)
 
-pub loaded_stays : (old new : JournalState) → IsLater old new → (policy : ℕ) → policy ≤ old.policy
-    → loaded_by policy new.loaded ≡ loaded_by policy old.loaded
-loaded_stays old new later policy within =
-    ap (loaded_by policy) later.is
-    ∙ loaded_append policy old.loaded later.more (above_less old.policy policy later.more within later.above)
+module _ (old new : JournalState) (later : IsLater old new) (policy : ℕ) (within : policy ≤ old.policy) where
+  tested_stay : (passes : LoadedModule → Bool) → ((l : LoadedModule) → IsAbove policy l → passes l ≡ false)
+      → filter passes new.loaded ≡ filter passes old.loaded
+  tested_stay passes fails =
+      ap (filter passes) later.is
+      ∙ tested_append passes policy fails old.loaded later.more
+      (above_less old.policy policy later.more within later.above)
+
+  pub loaded_stays : loaded_by policy new.loaded ≡ loaded_by policy old.loaded
+  loaded_stays =
+      tested_stay (λ (l : LoadedModule). nat_le l.policy policy)
+      (λ (l : LoadedModule) past. lt-leb l.policy policy past)
+
+  pub cells_stay : cells_at policy new.loaded ≡ cells_at policy old.loaded
+  cells_stay = ap (λ (ls : List LoadedModule). cells_of (placed_modules ls) (placed_modules ls)) loaded_stays
+
+  -- fills that stay, and the cells behind them
+  with_cells_stay : (cells : Cells) (before after : List Fill) → after ≡ before
+      → with_cells cells policy new.loaded after ≡ with_cells cells policy old.loaded before
+  with_cells_stay Filled before after same =
+      ap (λ (fills : List Fill). fills ++ cells_at policy new.loaded) same
+      ∙ ap (λ (fills : List Fill). before ++ fills) cells_stay
+  with_cells_stay Left before after same = same
+
+  pub fills_stay : (cells : Cells) (above : ℕ)
+      → fills_between cells above policy new.loaded ≡ fills_between cells above policy old.loaded
+  fills_stay cells above =
+      with_cells_stay cells (data_between above policy old.loaded) (data_between above policy new.loaded)
+      (ap (λ (ls : List LoadedModule). fills_of (placed_modules ls))
+      (tested_stay (λ (l : LoadedModule). nat_lt above l.policy && nat_le l.policy policy)
+      (λ (l : LoadedModule) past.
+      and_right (nat_lt above l.policy) (nat_le l.policy policy) (lt-leb l.policy policy past))))
+
+pub start_fills_stay : (old new : JournalState) → IsLater old new → (cells : Cells)
+    → start_fills cells new.loaded ≡ start_fills cells old.loaded
+start_fills_stay old new later cells =
+    with_cells_stay old new later 0 (omega arith) cells (start_data old.loaded) (start_data new.loaded)
+    (ap (λ (ls : List LoadedModule). fills_of (placed_modules ls)) (loaded_stays old new later 0 (omega arith)))
 
 -- ---- where epochs are spent
 

@@ -13,8 +13,8 @@ use Rattle.cfi_model.proofs.StartLemmas.{Started, started, body_at}
 use Rattle.cfi_unit.specs.declared.unit.Unit.{Unit as CodeUnit}
 use Rattle.cfi_unit.specs.declared.unit.Unit.TheVariants as units
 use Rattle.cfi_unit.proofs.CodeLemmas.{BeginsAt-one}
-use Rattle.cfi_valid.specs.FromLaw.{HasPolicies, BringsDue}
-use Rattle.cfi_valid.specs.Loaded.{LoadedModule, placed_modules, loaded_by, live_at, AllowedAt}
+use Rattle.cfi_valid.specs.FromLaw.{HasPolicies, BringsDue, StepsAreUnits}
+use Rattle.cfi_valid.specs.Loaded.{LoadedModule, placed_modules, loaded_by, live_at, AllowedAt, Cells}
 use Rattle.cfi_valid.specs.Running.{FitsService, IsGiven, RunsUnit}
 use Rattle.cfi_valid.proofs.PolicyLemmas.{image_allows}
 use Rattle.cfi_word.specs.Table.{slots_of}
@@ -59,21 +59,21 @@ module _ (h : History) (code : List ℕ) (loaded : List LoadedModule) (end : End
         λ allowed. eq-eqb bary tary (exact.1 allowed),
       )
 
-  module _ (due : BringsDue loaded old end.reply) where
+  module _ (cells : Cells) (due : BringsDue cells loaded old end.reply) where
     -- ---- a service
 
     answered : p.unit ≡ units.Service → IsAnswered units.Service end p.reply old
     answered same = subst (λ (u : CodeUnit). IsAnswered u end p.reply old) same p.answered
 
     service_given : p.unit ≡ units.Service → (asking : Bool) → asks old ≡ asking
-        → FitsService asking loaded old p.reply
+        → FitsService cells asking loaded old p.reply
     service_given same true is =
         let both = and_parts (asked old == OPEN) (nat_lt (opens old.log) MAX_OPENS) is in
         let a = answered same in
         let fits = a.fits (eqb-true (asked old) OPEN both.0) in
         record {
           some = fits.exact (ltb-true (opens old.log) MAX_OPENS both.1);
-          brings = subst (BringsDue loaded old) a.came due;
+          brings = subst (BringsDue cells loaded old) a.came due;
         }
     service_given same false is = λ opening.
         let fits = (answered same).fits opening in
@@ -93,7 +93,8 @@ module _ (h : History) (code : List ℕ) (loaded : List LoadedModule) (end : End
     allowed_by (units.Check link rs1 imm slot) = allows_at h p.epoch slot (displaced (register old rs1) imm)
     allowed_by unit = true
 
-    given : (unit : CodeUnit) → p.unit ≡ unit → IsGiven loaded unit old (h.policy p.epoch) (allowed_by unit) p.reply
+    given : (unit : CodeUnit) → p.unit ≡ unit
+        → IsGiven cells loaded unit old (h.policy p.epoch) (allowed_by unit) p.reply
     given (units.Plain insn) same = tt
     given (units.Load kind rd rs1 imm) same = tt
     given (units.Store kind rs1 rs2 imm) same = tt
@@ -112,8 +113,8 @@ module _ (h : History) (code : List ℕ) (loaded : List LoadedModule) (end : End
     effect_same (units.Check link rs1 imm slot) = refl
     effect_same units.Service = refl
 
-    pub step_unit : RunsUnit code loaded old new
-    step_unit = record {
+    runs_unit : RunsUnit cells code loaded old new
+    runs_unit = record {
       going = p.going;
       unit = p.unit;
       stands = p.stands;
@@ -123,3 +124,7 @@ module _ (h : History) (code : List ℕ) (loaded : List LoadedModule) (end : End
       given = given p.unit refl;
       is = p.is ∙ effect_same p.unit;
     }
+
+pub step_unit : StepsAreUnits
+step_unit cells h code loaded end old new known policies ready p due =
+    runs_unit h code loaded end old new known policies ready p cells due

@@ -6,7 +6,7 @@ use Rattle.cfi_model.specs.Service.{Reply}
 use Rattle.cfi_model.specs.Shows.{End, IsReady, IsStep}
 use Rattle.cfi_model.specs.State.{State}
 use Rattle.cfi_modules.specs.Loaded.{AreLoaded, IsLoadedImage}
-use Rattle.cfi_valid.specs.Loaded.{LoadedModule, placed_modules, loaded_by, live_at, fills_between}
+use Rattle.cfi_valid.specs.Loaded.{LoadedModule, placed_modules, loaded_by, live_at, Cells, fills_between}
 use Rattle.cfi_valid.specs.Replay.{given_by}
 use Rattle.cfi_valid.specs.Running.{RunsUnit}
 
@@ -18,14 +18,15 @@ pub record HasPolicies (code_words : ℕ) (loaded : List LoadedModule) (h : Hist
       → IsLoadedImage code_words (placed_modules (loaded_by (h.policy epoch) loaded))
       (placed_modules (live_at (h.policy epoch) loaded)) (h.image epoch)
 
--- the answer to an open that succeeds brings the data that the guest lacks
-abbrev pub BringsDue : List LoadedModule → State → Option Reply → Type 0
-BringsDue loaded s None = ⊤
-BringsDue loaded s (Some reply) = reply.cause ≡ 0 → reply.fills ≡ fills_between (given_by s.log) reply.policy loaded
+-- the answer to an open that succeeds brings the data that the guest lacks, and the cells
+abbrev pub BringsDue : Cells → List LoadedModule → State → Option Reply → Type 0
+BringsDue cells loaded s None = ⊤
+BringsDue cells loaded s (Some reply) =
+    reply.cause ≡ 0 → reply.fills ≡ fills_between cells (given_by s.log) reply.policy loaded
 
 -- a step of the law is a unit of a replay
 abbrev pub StepsAreUnits : Type 0
 StepsAreUnits =
-    (h : History) (code : List ℕ) (loaded : List LoadedModule) (end : End) (old new : State) → IsHistory h code →
-    HasPolicies (length code) loaded h → IsReady h old → IsStep h code end old new → BringsDue loaded old end.reply →
-    RunsUnit code loaded old new
+    (cells : Cells) (h : History) (code : List ℕ) (loaded : List LoadedModule) (end : End) (old new : State) →
+    IsHistory h code → HasPolicies (length code) loaded h → IsReady h old → IsStep h code end old new →
+    BringsDue cells loaded old end.reply → RunsUnit cells code loaded old new

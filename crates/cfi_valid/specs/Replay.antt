@@ -11,7 +11,7 @@ use Rattle.cfi_model.specs.Effect.{effect, is_in_code, asks}
 use Rattle.cfi_model.specs.Service.{Reply, reply_of, too_many}
 use Rattle.cfi_model.specs.Shows.{Stands}
 use Rattle.cfi_model.specs.State.{State, register, displaced}
-use Rattle.cfi_valid.specs.Loaded.{LoadedModule, AllowedAt, fills_between}
+use Rattle.cfi_valid.specs.Loaded.{LoadedModule, AllowedAt, Cells, fills_between}
 
 -- ---- the log, one by one
 
@@ -41,13 +41,13 @@ given_after given (Cause number cause) = given
 abbrev pub given_by : List Log → ℕ
 given_by log = fold given_after 0 log
 
--- the answer that an entry tells: a success brings the data that the guest lacks
-abbrev pub IsReplyOf : List LoadedModule → State → Option Log → Reply → Type 0
-IsReplyOf loaded s (Some (Open number address policy)) reply =
-    reply ≡ reply_of address 0 policy (fills_between (given_by s.log) policy loaded)
-IsReplyOf loaded s (Some (Cause number cause)) reply = reply ≡ reply_of 0 cause 0 []
-IsReplyOf loaded s (Some (Pick policy count)) reply = ⊥
-IsReplyOf loaded s None reply = ⊥
+-- the answer that an entry tells: a success brings the data that the guest lacks, and then the cells
+abbrev pub IsReplyOf : Cells → List LoadedModule → State → Option Log → Reply → Type 0
+IsReplyOf cells loaded s (Some (Open number address policy)) reply =
+    reply ≡ reply_of address 0 policy (fills_between cells (given_by s.log) policy loaded)
+IsReplyOf cells loaded s (Some (Cause number cause)) reply = reply ≡ reply_of 0 cause 0 []
+IsReplyOf cells loaded s (Some (Pick policy count)) reply = ⊥
+IsReplyOf cells loaded s None reply = ⊥
 
 -- ---- one unit
 
@@ -64,34 +64,36 @@ TakesPick true loaded next slot target pick allowed = IsPicked loaded next slot 
 TakesPick false loaded next slot target pick allowed = ⊤
 
 -- an open that can be logged has the next answer of the log, each other has found too many
-abbrev pub TakesAnswer : (asked : Bool) → List LoadedModule → State → Option Log → Reply → Type 0
-TakesAnswer true loaded s next reply = IsReplyOf loaded s next reply
-TakesAnswer false loaded s next reply = reply ≡ too_many
+abbrev pub TakesAnswer : Cells → (asked : Bool) → List LoadedModule → State → Option Log → Reply → Type 0
+TakesAnswer cells true loaded s next reply = IsReplyOf cells loaded s next reply
+TakesAnswer cells false loaded s next reply = reply ≡ too_many
 
 -- what a unit takes from the log
-abbrev pub TakesFrom : List LoadedModule → Option Log → CodeUnit → State → (pick : ℕ) → (allowed : Bool) → Reply
-    → Type 0
-TakesFrom loaded next (units.Check link rs1 imm slot) s pick allowed reply =
+abbrev pub TakesFrom : Cells → List LoadedModule → Option Log → CodeUnit → State → (pick : ℕ) → (allowed : Bool)
+    → Reply → Type 0
+TakesFrom cells loaded next (units.Check link rs1 imm slot) s pick allowed reply =
     let target = displaced (register s rs1) imm in TakesPick (is_in_code target) loaded next slot target pick allowed
-TakesFrom loaded next units.Service s pick allowed reply = TakesAnswer (asks s) loaded s next reply
-TakesFrom loaded next unit s pick allowed reply = ⊤
+TakesFrom cells loaded next units.Service s pick allowed reply = TakesAnswer cells (asks s) loaded s next reply
+TakesFrom cells loaded next unit s pick allowed reply = ⊤
 
 -- a guest that has not stopped runs a unit of the code
-pub record IsReplayed (code : List ℕ) (loaded : List LoadedModule) (log : List Log) (old new : State) : Type 0 where
+pub record IsReplayed (cells : Cells) (code : List ℕ) (loaded : List LoadedModule) (log : List Log) (old new : State)
+    : Type 0 where
   pub going : old.stop ≡ None
   pub unit : CodeUnit
   pub stands : Stands code old.pc unit
   pub pick : ℕ
   pub allowed : Bool
   pub reply : Reply
-  pub takes : TakesFrom loaded (next_in log old) unit old pick allowed reply
+  pub takes : TakesFrom cells loaded (next_in log old) unit old pick allowed reply
   pub is : new ≡ effect unit pick (λ slot target. allowed) reply old
 
 -- and so many units
-abbrev pub Replays : (code : List ℕ) → List LoadedModule → (log : List Log) → (count : ℕ) → (old new : State) → Type 0
-Replays code loaded log zero old new = new ≡ old
-Replays code loaded log (suc count) old new =
-    (mid : State) × Replays code loaded log count old mid × IsReplayed code loaded log mid new
+abbrev pub Replays : Cells → (code : List ℕ) → List LoadedModule → (log : List Log) → (count : ℕ) → (old new : State)
+    → Type 0
+Replays cells code loaded log zero old new = new ≡ old
+Replays cells code loaded log (suc count) old new =
+    (mid : State) × Replays cells code loaded log count old mid × IsReplayed cells code loaded log mid new
 
 -- a stop by the fuel, and none, is shown as none
 abbrev pub shown_stop : Option Stop → Option Stop

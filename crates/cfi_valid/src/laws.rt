@@ -94,7 +94,7 @@ pub fn replays_go_on()
 {}
 
 /// A step that the law of a running guest gives is a unit of a replay, where each epoch's image is that of the modules
-/// that its policy finds loaded, and each answer brings the data that is due.
+/// that its policy finds loaded, and each answer brings the data that is due, and the cells where they are filled.
 pub fn steps_are_units()
     ensures { StepsAreUnits }
 {}

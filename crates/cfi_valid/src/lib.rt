@@ -7,7 +7,7 @@
 //! one journal agree in all that a guest's log tells; what was logged stays true while the journal goes on; a replay
 //! goes on unit by unit; the classes of an image are its policy; the reports of a bare file, of a load, and of three
 //! modules with tables in their data are valid; the first two, changed in one thing, are not. Only tested: nothing.
-//! Open: a call that decides whether a report is valid.
+//! Open: nothing.
 #![tactic(auto)]
 
 mod causes;

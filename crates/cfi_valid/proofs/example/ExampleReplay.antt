@@ -18,7 +18,7 @@ use Rattle.cfi_plan.specs.Bare.{bare_plan}
 use Rattle.cfi_valid.specs.Course.{Course}
 use Rattle.cfi_valid.specs.Example.{hello_module, hello_part, hello_report}
 use Rattle.cfi_valid.specs.Journal.{JournalState, IsOpeningState, IsJournal}
-use Rattle.cfi_valid.specs.Loaded.{LoadedModule, start_fills}
+use Rattle.cfi_valid.specs.Loaded.{LoadedModule, Filled, start_fills}
 use Rattle.cfi_valid.specs.Log.{IsLogged}
 use Rattle.cfi_valid.specs.Parts.{ComesTo, HasEndedReplay, FitsEndedSteps}
 use Rattle.cfi_valid.specs.Replay.{next_in, TakesFrom, IsReplayed, Replays}
@@ -72,7 +72,7 @@ abbrev runs : CodeUnit → State → State
 runs u s = effect u 0 (λ slot target. true) too_many s
 
 abbrev pub s0 : State
-s0 = opened 0 (4 * FIRST_BASE) (start_fills (one ∷ []))
+s0 = opened 0 (4 * FIRST_BASE) (start_fills Filled (one ∷ []))
 
 abbrev s1 : State
 s1 = runs (sets 17 2) s0
@@ -93,7 +93,8 @@ abbrev pub s6 : State
 s6 = runs Service s5
 
 unit : (u : CodeUnit) (old : State) → old.stop ≡ None → Stands code old.pc u
-    → TakesFrom (one ∷ []) (next_in [] old) u old 0 true too_many → IsReplayed code (one ∷ []) [] old (runs u old)
+    → TakesFrom Filled (one ∷ []) (next_in [] old) u old 0 true too_many
+    → IsReplayed Filled code (one ∷ []) [] old (runs u old)
 unit u old going at takes = record {
   going = going;
   unit = u;
@@ -105,30 +106,30 @@ unit u old going at takes = record {
   is = refl;
 }
 
-r1 : Replays code (one ∷ []) [] 1 s0 s1
+r1 : Replays Filled code (one ∷ []) [] 1 s0 s1
 r1 = (s0, refl, unit (sets 17 2) s0 refl (stands MAX_CODE_WORDS hello_words 64 0 (sets 17 2) refl refl fit.0 refl) tt)
 
-r2 : Replays code (one ∷ []) [] 2 s0 s2
+r2 : Replays Filled code (one ∷ []) [] 2 s0 s2
 r2 = (s1, r1, unit (sets 10 72) s1 refl (stands MAX_CODE_WORDS hello_words 68 1 (sets 10 72) refl refl fit.1.0 refl) tt)
 
-r3 : Replays code (one ∷ []) [] 3 s0 s3
+r3 : Replays Filled code (one ∷ []) [] 3 s0 s3
 r3 = (s2, r2, unit Service s2 refl (stands MAX_CODE_WORDS hello_words 72 2 Service refl refl tt refl) refl)
 
-r4 : Replays code (one ∷ []) [] 4 s0 s4
+r4 : Replays Filled code (one ∷ []) [] 4 s0 s4
 r4 = (
   s3,
   r3,
   unit (sets 17 1) s3 refl (stands MAX_CODE_WORDS hello_words 76 3 (sets 17 1) refl refl fit.1.1.1.0 refl) tt,
 )
 
-r5 : Replays code (one ∷ []) [] 5 s0 s5
+r5 : Replays Filled code (one ∷ []) [] 5 s0 s5
 r5 = (
   s4,
   r4,
   unit (sets 10 7) s4 refl (stands MAX_CODE_WORDS hello_words 80 4 (sets 10 7) refl refl fit.1.1.1.1.0 refl) tt,
 )
 
-r6 : Replays code (one ∷ []) [] 6 s0 s6
+r6 : Replays Filled code (one ∷ []) [] 6 s0 s6
 r6 = (s5, r5, unit Service s5 refl (stands MAX_CODE_WORDS hello_words 84 5 Service refl refl tt refl) refl)
 
 -- ---- the report
@@ -144,7 +145,7 @@ logged = record {
   causes = λ at number cause is. absurd (cc);
 }
 
-pub comes : ComesTo course (hello_part (0x48 ∷ [])) s6
+pub comes : ComesTo Filled course (hello_part (0x48 ∷ [])) s6
 comes = record { address = 4 * FIRST_BASE; begins = refl; code = code; is_code = is_code; replay = r6 }
 
 replayed : HasEndedReplay course (hello_part (0x48 ∷ []))

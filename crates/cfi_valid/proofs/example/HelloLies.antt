@@ -13,7 +13,7 @@ use Rattle.cfi_valid.specs.Agree.{EndsAlike}
 use Rattle.cfi_valid.specs.Example.{hello_module, hello_line}
 use Rattle.cfi_valid.specs.Journal.{JournalState, IsJournal}
 use Rattle.cfi_valid.specs.Lies.{hello, hello_guest, hello_by, hello_with, IsHello}
-use Rattle.cfi_valid.specs.Loaded.{module_line_of}
+use Rattle.cfi_valid.specs.Loaded.{Filled, module_line_of}
 use Rattle.cfi_valid.specs.Parts.{FitsEndedSteps}
 use Rattle.cfi_valid.specs.Valid.{course_of}
 use Rattle.cfi_valid.proofs.JournalLemmas.{journal_once}
@@ -89,7 +89,7 @@ one_steps n is =
     subst
     (λ (s : JournalState). FitsEndedSteps (course_of bare_plan (hello_module ∷ []) (hello_by part) s) part)
     (end_is (hello_by part) refl is) (is.steps 0 part refl) in
-    let last = comes_once course part hello_guest told.fits.last s6 told.fits.comes comes refl refl refl refl in
+    let last = comes_once Filled course part hello_guest told.fits.last s6 told.fits.comes comes refl refl refl refl in
     let ran : told.fits.last.steps ≡ 6 = ap (λ (s : State). s.steps) last in
     let begun : told.fits.counts.begun ≡ 0 = told.fits.counts.begins in
     omega (arith, told.fits.counts.sum, ran, told.single refl, begun)

@@ -10,7 +10,7 @@ use Rattle.cfi_unit.specs.declared.log.Log.TheVariants.{Pick, Open, Cause}
 use Rattle.cfi_valid.specs.Course.{Course}
 use Rattle.cfi_valid.specs.Journal.{IsJournal}
 use Rattle.cfi_valid.specs.LoadExample.{load_plan, load_part, load_report}
-use Rattle.cfi_valid.specs.Loaded.{loaded_by}
+use Rattle.cfi_valid.specs.Loaded.{loaded_by, Filled}
 use Rattle.cfi_valid.specs.Log.{HasFunctionAt, IsLogged}
 use Rattle.cfi_valid.specs.Parts.{ComesTo, HasEndedReplay, FitsEndedSteps}
 use Rattle.cfi_valid.specs.Valid.{IsEnded, course_of, IsValidReport}
@@ -81,7 +81,7 @@ logged = record {
   causes = λ at number cause is. absurd (causes_at at number cause is);
 }
 
-pub comes : ComesTo course load_part s7
+pub comes : ComesTo Filled course load_part s7
 comes = record { address = 4 * FIRST_BASE; begins = entry; code = code; is_code = is_code; replay = r7 }
 
 replayed : HasEndedReplay course load_part

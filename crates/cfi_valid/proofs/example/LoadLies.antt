@@ -21,7 +21,7 @@ use Rattle.cfi_valid.specs.Agree.{EndsAlike}
 use Rattle.cfi_valid.specs.Journal.{JournalState, IsJournal}
 use Rattle.cfi_valid.specs.Lies.{opening, opening_by, opening_logged, opening_at, opening_alone, opening_asked, scripted, IsOpening}
 use Rattle.cfi_valid.specs.LoadExample.{load_plan, line_at, load_part}
-use Rattle.cfi_valid.specs.Loaded.{LoadedModule, loaded_by, module_line_of}
+use Rattle.cfi_valid.specs.Loaded.{LoadedModule, Filled, loaded_by, module_line_of}
 use Rattle.cfi_valid.specs.Log.{HasFunctionAt}
 use Rattle.cfi_valid.specs.Modules.{origin_of}
 use Rattle.cfi_valid.specs.Parts.{FitsEndedSteps}
@@ -131,7 +131,7 @@ steps_by_tries n is =
     let told : FitsEndedSteps course part =
     subst (λ (s : JournalState). FitsEndedSteps (course_of load_plan modules (opening_by part) s) part)
     (end_is (opening_by part) refl is) (is.steps 0 part refl) in
-    let last = comes_once course part load_part told.fits.last s7 told.fits.comes comes refl refl refl refl in
+    let last = comes_once Filled course part load_part told.fits.last s7 told.fits.comes comes refl refl refl refl in
     let ran : told.fits.last.steps ≡ 25 = ap (λ (s : State). s.steps) last in
     let begun : told.fits.counts.begun ≡ 0 = told.fits.counts.begins in
     (told.fits.counts.repeats, omega (arith, told.fits.counts.sum, ran, begun))

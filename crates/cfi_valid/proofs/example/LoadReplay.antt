@@ -17,7 +17,7 @@ use Rattle.cfi_unit.specs.declared.log.Log.{Log}
 use Rattle.cfi_unit.specs.declared.log.Log.TheVariants.{Pick, Open}
 use Rattle.cfi_unit.specs.declared.unit.Unit.{Unit as CodeUnit}
 use Rattle.cfi_unit.specs.declared.unit.Unit.TheVariants.{Service}
-use Rattle.cfi_valid.specs.Loaded.{fills_between, start_fills}
+use Rattle.cfi_valid.specs.Loaded.{Filled, fills_between, start_fills}
 use Rattle.cfi_valid.specs.Replay.{next_in, IsPicked, TakesFrom, IsReplayed, Replays}
 use Rattle.cfi_valid.proofs.example.ExampleCode.{code_at, is_code_at, stands}
 use Rattle.cfi_valid.proofs.example.ExampleLemmas.{sets}
@@ -79,13 +79,13 @@ abbrev pub log : List Log
 log = Open 1 144 1 ∷ Pick 1 2 ∷ []
 
 abbrev opens : Reply
-opens = reply_of 144 0 1 (fills_between 0 1 loaded)
+opens = reply_of 144 0 1 (fills_between Filled 0 1 loaded)
 
 abbrev runs : CodeUnit → Reply → State → State
 runs u reply s = effect u 1 (λ slot target. true) reply s
 
 abbrev pub s0 : State
-s0 = opened 0 (4 * FIRST_BASE) (start_fills loaded)
+s0 = opened 0 (4 * FIRST_BASE) (start_fills Filled loaded)
 
 abbrev s1 : State
 s1 = runs (sets 17 4) too_many s0
@@ -109,7 +109,8 @@ abbrev pub s7 : State
 s7 = runs Service too_many s6
 
 unit : (u : CodeUnit) (reply : Reply) (old : State) → old.stop ≡ None → Stands code old.pc u
-    → TakesFrom loaded (next_in log old) u old 1 true reply → IsReplayed code loaded log old (runs u reply old)
+    → TakesFrom Filled loaded (next_in log old) u old 1 true reply
+    → IsReplayed Filled code loaded log old (runs u reply old)
 unit u reply old going at takes = record {
   going = going;
   unit = u;
@@ -126,24 +127,24 @@ picks : (slot target : ℕ) (old : State) → next_in log old ≡ Some (Pick 1 1
     → Allowed (opener_placed ∷ plug_placed ∷ []) slot target → IsPicked loaded (next_in log old) slot target 1 true
 picks slot target old next allowed = record { is = next; exact = (λ is. allowed, λ chain. refl) }
 
-r1 : Replays code loaded log 1 s0 s1
+r1 : Replays Filled code loaded log 1 s0 s1
 r1 = (
   s0,
   refl,
   unit (sets 17 4) too_many s0 refl (stands MIN_CODE_WORDS words 64 0 (sets 17 4) refl refl fit.0 refl) tt,
 )
 
-r2 : Replays code loaded log 2 s0 s2
+r2 : Replays Filled code loaded log 2 s0 s2
 r2 = (
   s1,
   r1,
   unit (sets 10 1) too_many s1 refl (stands MIN_CODE_WORDS words 68 1 (sets 10 1) refl refl fit.1.0 refl) tt,
 )
 
-r3 : Replays code loaded log 3 s0 s3
+r3 : Replays Filled code loaded log 3 s0 s3
 r3 = (s2, r2, unit Service opens s2 refl (stands MIN_CODE_WORDS words 72 2 Service refl refl tt refl) refl)
 
-r4 : Replays code loaded log 4 s0 s4
+r4 : Replays Filled code loaded log 4 s0 s4
 r4 = (
   s3,
   r3,
@@ -151,7 +152,7 @@ r4 = (
       (picks 0 144 s3 refl may_call),
 )
 
-r5 : Replays code loaded log 5 s0 s5
+r5 : Replays Filled code loaded log 5 s0 s5
 r5 = (
   s4,
   r4,
@@ -159,12 +160,12 @@ r5 = (
       (picks 1 132 s4 refl may_return),
 )
 
-r6 : Replays code loaded log 6 s0 s6
+r6 : Replays Filled code loaded log 6 s0 s6
 r6 = (
   s5,
   r5,
   unit (sets 17 1) too_many s5 refl (stands MIN_CODE_WORDS words 132 17 (sets 17 1) refl refl fit.1.1.1.1.0 refl) tt,
 )
 
-pub r7 : Replays code loaded log 7 s0 s7
+pub r7 : Replays Filled code loaded log 7 s0 s7
 r7 = (s6, r6, unit Service too_many s6 refl (stands MIN_CODE_WORDS words 136 18 Service refl refl tt refl) refl)

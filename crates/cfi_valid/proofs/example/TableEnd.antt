@@ -5,6 +5,7 @@ use Rattle.rv_insn.specs.declared.insn.Insn.TheVariants.{OpImm}
 use Rattle.rv_insn.specs.declared.insn.LoadKind.TheVariants.{Lw}
 use Rattle.cfi_unit.specs.declared.unit.Unit.TheVariants.{Plain, Load, Check, Service}
 use Rattle.cfi_model.specs.Service.{too_many}
+use Rattle.cfi_valid.specs.Loaded.{Filled}
 use Rattle.cfi_valid.specs.Replay.{Replays}
 use Rattle.cfi_valid.proofs.example.ExampleCode.{stands}
 use Rattle.cfi_valid.proofs.example.TableJournal.{loaded, words, code}
@@ -13,7 +14,7 @@ use Rattle.cfi_valid.proofs.example.TableReplay.{unit, picks, r19}
 use Rattle.cfi_valid.proofs.example.TableStates.{log, opens, s0, s19, s20, s21, s22, s23, s24, s25, s26, s27, s28, s29, s30, s31, s32, s33, s34, s35, s36, s37, s38}
 use Rattle.cfi_word.specs.declared.limits.TheConstants.{MAX_CODE_WORDS}
 
-r20 : Replays code loaded log 20 s0 s20
+r20 : Replays Filled code loaded log 20 s0 s20
 r20 = (
   s19,
   r19,
@@ -22,7 +23,7 @@ r20 = (
       (omega arith, omega arith, omega arith) refl) tt,
 )
 
-r21 : Replays code loaded log 21 s0 s21
+r21 : Replays Filled code loaded log 21 s0 s21
 r21 = (
   s20,
   r20,
@@ -31,7 +32,7 @@ r21 = (
       (omega arith, omega arith, omega arith) refl) (picks 3 440 0 s20 refl case_allowed),
 )
 
-r22 : Replays code loaded log 22 s0 s22
+r22 : Replays Filled code loaded log 22 s0 s22
 r22 = (
   s21,
   r21,
@@ -40,7 +41,7 @@ r22 = (
       (omega arith, omega arith, omega arith) refl) tt,
 )
 
-r23 : Replays code loaded log 23 s0 s23
+r23 : Replays Filled code loaded log 23 s0 s23
 r23 = (
   s22,
   r22,
@@ -49,7 +50,7 @@ r23 = (
       (omega arith, omega arith, omega arith) refl) (picks 5 524 0 s22 refl choose_allowed),
 )
 
-r24 : Replays code loaded log 24 s0 s24
+r24 : Replays Filled code loaded log 24 s0 s24
 r24 = (
   s23,
   r23,
@@ -58,7 +59,7 @@ r24 = (
       (omega arith, omega arith, omega arith) refl) tt,
 )
 
-r25 : Replays code loaded log 25 s0 s25
+r25 : Replays Filled code loaded log 25 s0 s25
 r25 = (
   s24,
   r24,
@@ -66,7 +67,7 @@ r25 = (
       (stands MAX_CODE_WORDS words 528 116 Service refl refl tt refl) refl,
 )
 
-r26 : Replays code loaded log 26 s0 s26
+r26 : Replays Filled code loaded log 26 s0 s26
 r26 = (
   s25,
   r25,
@@ -75,7 +76,7 @@ r26 = (
       (omega arith, omega arith, omega arith) refl) tt,
 )
 
-r27 : Replays code loaded log 27 s0 s27
+r27 : Replays Filled code loaded log 27 s0 s27
 r27 = (
   s26,
   r26,
@@ -84,7 +85,7 @@ r27 = (
       (omega arith, omega arith, omega arith) refl) tt,
 )
 
-r28 : Replays code loaded log 28 s0 s28
+r28 : Replays Filled code loaded log 28 s0 s28
 r28 = (
   s27,
   r27,
@@ -92,7 +93,7 @@ r28 = (
       (stands MAX_CODE_WORDS words 540 119 Service refl refl tt refl) refl,
 )
 
-r29 : Replays code loaded log 29 s0 s29
+r29 : Replays Filled code loaded log 29 s0 s29
 r29 = (
   s28,
   r28,
@@ -101,7 +102,7 @@ r29 = (
       (omega arith, omega arith, omega arith) refl) tt,
 )
 
-r30 : Replays code loaded log 30 s0 s30
+r30 : Replays Filled code loaded log 30 s0 s30
 r30 = (
   s29,
   r29,
@@ -110,7 +111,7 @@ r30 = (
       (omega arith, omega arith, omega arith) refl) tt,
 )
 
-r31 : Replays code loaded log 31 s0 s31
+r31 : Replays Filled code loaded log 31 s0 s31
 r31 = (
   s30,
   r30,
@@ -119,7 +120,7 @@ r31 = (
       (omega arith, omega arith, omega arith) refl) (picks 6 632 1 s30 refl call_allowed),
 )
 
-r32 : Replays code loaded log 32 s0 s32
+r32 : Replays Filled code loaded log 32 s0 s32
 r32 = (
   s31,
   r31,
@@ -128,7 +129,7 @@ r32 = (
       (omega arith, omega arith, omega arith) refl) tt,
 )
 
-r33 : Replays code loaded log 33 s0 s33
+r33 : Replays Filled code loaded log 33 s0 s33
 r33 = (
   s32,
   r32,
@@ -137,7 +138,7 @@ r33 = (
       (omega arith, omega arith, omega arith) refl) (picks 7 608 1 s32 refl plus_allowed),
 )
 
-r34 : Replays code loaded log 34 s0 s34
+r34 : Replays Filled code loaded log 34 s0 s34
 r34 = (
   s33,
   r33,
@@ -146,7 +147,7 @@ r34 = (
       (omega arith, omega arith, omega arith) refl) tt,
 )
 
-r35 : Replays code loaded log 35 s0 s35
+r35 : Replays Filled code loaded log 35 s0 s35
 r35 = (
   s34,
   r34,
@@ -154,7 +155,7 @@ r35 = (
       (stands MAX_CODE_WORDS words 612 137 Service refl refl tt refl) refl,
 )
 
-r36 : Replays code loaded log 36 s0 s36
+r36 : Replays Filled code loaded log 36 s0 s36
 r36 = (
   s35,
   r35,
@@ -163,7 +164,7 @@ r36 = (
       (omega arith, omega arith, omega arith) refl) tt,
 )
 
-r37 : Replays code loaded log 37 s0 s37
+r37 : Replays Filled code loaded log 37 s0 s37
 r37 = (
   s36,
   r36,
@@ -172,7 +173,7 @@ r37 = (
       (omega arith, omega arith, omega arith) refl) tt,
 )
 
-pub r38 : Replays code loaded log 38 s0 s38
+pub r38 : Replays Filled code loaded log 38 s0 s38
 r38 = (
   s37,
   r37,

@@ -10,7 +10,7 @@ use Rattle.cfi_unit.specs.declared.log.Log.{Log}
 use Rattle.cfi_unit.specs.declared.log.Log.TheVariants.{Pick, Open, Cause}
 use Rattle.cfi_valid.specs.Course.{Course}
 use Rattle.cfi_valid.specs.Journal.{IsJournal}
-use Rattle.cfi_valid.specs.Loaded.{loaded_by}
+use Rattle.cfi_valid.specs.Loaded.{loaded_by, Filled}
 use Rattle.cfi_valid.specs.Log.{HasFunctionAt, IsLogged}
 use Rattle.cfi_valid.specs.Parts.{ComesTo, HasEndedReplay, FitsEndedSteps}
 use Rattle.cfi_valid.specs.TableExample.{table_plan, table_part, table_report}
@@ -121,7 +121,7 @@ logged = record {
 
 -- ---- the report
 
-comes : ComesTo course (table_part out) s38
+comes : ComesTo Filled course (table_part out) s38
 comes = record { address = 500; begins = entry; code = code; is_code = is_code; replay = r38 }
 
 replayed : HasEndedReplay course (table_part out)

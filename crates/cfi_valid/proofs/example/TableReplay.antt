@@ -10,7 +10,7 @@ use Rattle.cfi_model.specs.Service.{Reply, too_many}
 use Rattle.cfi_model.specs.Shows.{Stands}
 use Rattle.cfi_model.specs.State.{State}
 use Rattle.cfi_unit.specs.declared.log.Log.TheVariants.{Pick}
-use Rattle.cfi_valid.specs.Loaded.{AllowedAt}
+use Rattle.cfi_valid.specs.Loaded.{AllowedAt, Filled}
 use Rattle.cfi_valid.specs.Replay.{next_in, IsPicked, TakesFrom, IsReplayed, Replays}
 use Rattle.cfi_valid.proofs.example.ExampleCode.{stands}
 use Rattle.cfi_valid.proofs.example.TableJournal.{loaded, words, code}
@@ -19,7 +19,8 @@ use Rattle.cfi_valid.proofs.example.TableStates.{log, runs, s0, s1, s2, s3, s4, 
 use Rattle.cfi_word.specs.declared.limits.TheConstants.{MAX_CODE_WORDS}
 
 pub unit : (u : CodeUnit) (pick : ℕ) (reply : Reply) (old : State) → old.stop ≡ None → Stands code old.pc u
-    → TakesFrom loaded (next_in log old) u old pick true reply → IsReplayed code loaded log old (runs u pick reply old)
+    → TakesFrom Filled loaded (next_in log old) u old pick true reply
+    → IsReplayed Filled code loaded log old (runs u pick reply old)
 unit u pick reply old going at takes = record {
   going = going;
   unit = u;
@@ -36,7 +37,7 @@ pub picks : (slot target policy : ℕ) (old : State) → next_in log old ≡ Som
     → AllowedAt loaded policy slot target → IsPicked loaded (next_in log old) slot target policy true
 picks slot target policy old next allowed = record { is = next; exact = (λ is. allowed, λ chain. refl) }
 
-r1 : Replays code loaded log 1 s0 s1
+r1 : Replays Filled code loaded log 1 s0 s1
 r1 = (
   s0,
   refl,
@@ -45,7 +46,7 @@ r1 = (
       (omega arith, omega arith, omega arith) refl) tt,
 )
 
-r2 : Replays code loaded log 2 s0 s2
+r2 : Replays Filled code loaded log 2 s0 s2
 r2 = (
   s1,
   r1,
@@ -53,7 +54,7 @@ r2 = (
       (stands MAX_CODE_WORDS words 504 110 (Jump true (negsuc 319)) refl refl (omega arith, refl) refl) tt,
 )
 
-r3 : Replays code loaded log 3 s0 s3
+r3 : Replays Filled code loaded log 3 s0 s3
 r3 = (
   s2,
   r2,
@@ -61,7 +62,7 @@ r3 = (
       (stands MAX_CODE_WORDS words 184 30 (Plain (Auipc 5 262144)) refl refl (omega arith, omega arith) refl) tt,
 )
 
-r4 : Replays code loaded log 4 s0 s4
+r4 : Replays Filled code loaded log 4 s0 s4
 r4 = (
   s3,
   r3,
@@ -70,7 +71,7 @@ r4 = (
       (omega arith, omega arith, omega arith) refl) tt,
 )
 
-r5 : Replays code loaded log 5 s0 s5
+r5 : Replays Filled code loaded log 5 s0 s5
 r5 = (
   s4,
   r4,
@@ -79,7 +80,7 @@ r5 = (
       (omega arith, omega arith, omega arith) refl) tt,
 )
 
-r6 : Replays code loaded log 6 s0 s6
+r6 : Replays Filled code loaded log 6 s0 s6
 r6 = (
   s5,
   r5,
@@ -88,7 +89,7 @@ r6 = (
       (omega arith, omega arith, omega arith) refl) tt,
 )
 
-r7 : Replays code loaded log 7 s0 s7
+r7 : Replays Filled code loaded log 7 s0 s7
 r7 = (
   s6,
   r6,
@@ -97,7 +98,7 @@ r7 = (
       (omega arith, omega arith, omega arith) refl) tt,
 )
 
-r8 : Replays code loaded log 8 s0 s8
+r8 : Replays Filled code loaded log 8 s0 s8
 r8 = (
   s7,
   r7,
@@ -106,7 +107,7 @@ r8 = (
       (omega arith, omega arith, omega arith) refl) tt,
 )
 
-r9 : Replays code loaded log 9 s0 s9
+r9 : Replays Filled code loaded log 9 s0 s9
 r9 = (
   s8,
   r8,
@@ -115,7 +116,7 @@ r9 = (
       (omega arith, omega arith, omega arith) refl) (picks 2 64 0 s8 refl tail_allowed),
 )
 
-r10 : Replays code loaded log 10 s0 s10
+r10 : Replays Filled code loaded log 10 s0 s10
 r10 = (
   s9,
   r9,
@@ -124,7 +125,7 @@ r10 = (
       (omega arith, omega arith, omega arith) refl) tt,
 )
 
-r11 : Replays code loaded log 11 s0 s11
+r11 : Replays Filled code loaded log 11 s0 s11
 r11 = (
   s10,
   r10,
@@ -133,7 +134,7 @@ r11 = (
       (omega arith, omega arith, omega arith) refl) (picks 0 508 0 s10 refl twice_allowed),
 )
 
-r12 : Replays code loaded log 12 s0 s12
+r12 : Replays Filled code loaded log 12 s0 s12
 r12 = (
   s11,
   r11,
@@ -142,7 +143,7 @@ r12 = (
       (omega arith, omega arith, omega arith) refl) tt,
 )
 
-r13 : Replays code loaded log 13 s0 s13
+r13 : Replays Filled code loaded log 13 s0 s13
 r13 = (
   s12,
   r12,
@@ -150,7 +151,7 @@ r13 = (
       (stands MAX_CODE_WORDS words 512 112 Service refl refl tt refl) refl,
 )
 
-r14 : Replays code loaded log 14 s0 s14
+r14 : Replays Filled code loaded log 14 s0 s14
 r14 = (
   s13,
   r13,
@@ -159,7 +160,7 @@ r14 = (
       (omega arith, omega arith, omega arith) refl) tt,
 )
 
-r15 : Replays code loaded log 15 s0 s15
+r15 : Replays Filled code loaded log 15 s0 s15
 r15 = (
   s14,
   r14,
@@ -167,7 +168,7 @@ r15 = (
       (stands MAX_CODE_WORDS words 520 114 (Jump true (negsuc 235)) refl refl (omega arith, refl) refl) tt,
 )
 
-r16 : Replays code loaded log 16 s0 s16
+r16 : Replays Filled code loaded log 16 s0 s16
 r16 = (
   s15,
   r15,
@@ -175,7 +176,7 @@ r16 = (
       (stands MAX_CODE_WORDS words 284 55 (Plain (Auipc 5 262144)) refl refl (omega arith, omega arith) refl) tt,
 )
 
-r17 : Replays code loaded log 17 s0 s17
+r17 : Replays Filled code loaded log 17 s0 s17
 r17 = (
   s16,
   r16,
@@ -184,7 +185,7 @@ r17 = (
       (omega arith, omega arith, omega arith) refl) tt,
 )
 
-r18 : Replays code loaded log 18 s0 s18
+r18 : Replays Filled code loaded log 18 s0 s18
 r18 = (
   s17,
   r17,
@@ -193,7 +194,7 @@ r18 = (
       (omega arith, omega arith, omega arith) refl) tt,
 )
 
-pub r19 : Replays code loaded log 19 s0 s19
+pub r19 : Replays Filled code loaded log 19 s0 s19
 r19 = (
   s18,
   r18,

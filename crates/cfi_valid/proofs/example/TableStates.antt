@@ -11,20 +11,20 @@ use Rattle.cfi_model.specs.Service.{Reply, reply_of, too_many}
 use Rattle.cfi_model.specs.State.{State, opened}
 use Rattle.cfi_unit.specs.declared.log.Log.{Log}
 use Rattle.cfi_unit.specs.declared.log.Log.TheVariants.{Pick, Open}
-use Rattle.cfi_valid.specs.Loaded.{fills_between, start_fills}
+use Rattle.cfi_valid.specs.Loaded.{Filled, fills_between, start_fills}
 use Rattle.cfi_valid.proofs.example.TableJournal.{loaded}
 
 abbrev pub log : List Log
 log = Pick 0 4 ∷ Open 2 632 1 ∷ Pick 1 2 ∷ []
 
 abbrev pub opens : Reply
-opens = reply_of 632 0 1 (fills_between 0 1 loaded)
+opens = reply_of 632 0 1 (fills_between Filled 0 1 loaded)
 
 abbrev pub runs : CodeUnit → (pick : ℕ) → Reply → State → State
 runs u pick reply s = effect u pick (λ slot target. true) reply s
 
 abbrev pub s0 : State
-s0 = opened 0 500 (start_fills loaded)
+s0 = opened 0 500 (start_fills Filled loaded)
 
 abbrev pub s1 : State
 s1 = runs (Plain (OpImm Addi 10 0 (pos 0))) 0 too_many s0
