@@ -16,6 +16,7 @@ use Rattle.cfi_ledger.specs.declared.finding.Finding.{Finding}
 use Rattle.cfi_ledger.specs.declared.finding.Outcome.{Outcome}
 use Rattle.cfi_ledger.specs.Finding.{AreFindings, DoesJoin, IsFinding, JoinsBut, fault_by}
 use Rattle.cfi_ledger.specs.Loads.{IsUnprepared}
+use Rattle.cfi_unit.specs.declared.fill.Fill.{Fill}
 use Rattle.cfi_ledger.specs.Roster.{Roster}
 
 -- ---- findings
@@ -45,8 +46,9 @@ module _ (modules : List Module) (r : Roster) where
 
   -- with one module more
   pub findings_more : (found : List (Option Finding)) → AreFindings modules r found → (lines : List ModuleLine)
-      → (one : Placed) → AreFindings modules (record r { lines = lines; placed = r.placed ++ one ∷ [] }) found
-  findings_more found are lines one = record {
+      → (one : Placed) (cells : List Fill)
+      → AreFindings modules (record r { lines = lines; placed = r.placed ++ one ∷ []; cells = cells }) found
+  findings_more found are lines one cells = record {
     many = are.many;
     each = λ number f is.
         let old = are.each number f is in

@@ -1,11 +1,12 @@
 -- A roster whose series has a module more, and a line for it.
-use Rattle.std.proofs.Common.{◌≡◌, ℕ, ◌-◌, List, [], ◌∷◌, ◌++◌, length, map, take, sym, ap, subst, ◌∙◌, arith, length-append}
+use Rattle.std.proofs.Common.{◌≡◌, ℕ, ◌-◌, List, [], ◌∷◌, ◌++◌, length, map, take, drop, sym, ap, subst, ◌∙◌, arith, length-append}
 use Rattle.std.proofs.Math.Seq.{take-length}
 use Rattle.std.proofs.lemmas.List.{map-append, take-append-le}
 use Rattle.cfi_aux.specs.declared.modules.Module.{Module}
 use Rattle.cfi_plan.specs.declared.journal.ModuleLine.{ModuleLine}
 use Rattle.cfi_modules.specs.Image.{IsOrderedImage}
 use Rattle.cfi_modules.specs.Order.{Joins}
+use Rattle.cfi_unit.specs.declared.fill.Fill.{Fill}
 use Rattle.cfi_modules.specs.Series.{Series, with_module, without_last, HasJoined as SeriesHasJoined}
 use Rattle.cfi_aux.specs.declared.placed.Placed.{Placed}
 use Rattle.cfi_plan.specs.declared.plan.Plan.{Plan}
@@ -24,41 +25,62 @@ init_of xs x =
     ∙ take-append-le (length xs) xs (x ∷ []) (omega arith)
     ∙ take-length xs
 
-module _ (number policy : ℕ) (name : List ℕ) (m : Module) (s new : Series) (lines : List ModuleLine) where
-  abbrev before : Roster
-  before = record { code_words = s.code_words; lines = lines; placed = s.placed }
+-- a roster by what keeps it
+abbrev pub roster_by : List ModuleLine → List Fill → Series → Roster
+roster_by lines fills s = record {
+  code_words = s.code_words;
+  lines = lines;
+  placed = s.placed;
+  cells = drop (length s.placed) fills;
+}
 
-  abbrev after : ModuleLine → Roster
-  after line = record { code_words = new.code_words; lines = lines ++ line ∷ []; placed = new.placed }
+module _ (number policy : ℕ) (name : List ℕ) (m : Module) (s new : Series) (lines : List ModuleLine)
+    (cells : List Fill) where
+  abbrev before : Roster
+  before = record { code_words = s.code_words; lines = lines; placed = s.placed; cells = cells }
+
+  abbrev after : ModuleLine → (cells : List Fill) → Roster
+  after line next =
+      record { code_words = new.code_words; lines = lines ++ line ∷ []; placed = new.placed; cells = next }
 
   pub roster_joined : (old : Roster) → before ≡ old → (joined : SeriesHasJoined s new m) → (line : ModuleLine)
-      → line ≡ line_by number name policy joined.0 → HasJoined number name policy m old (after line)
-  roster_joined old same joined line line_is =
-      subst (λ (o : Roster). HasJoined number name policy m o (after line)) same (record {
+      → line ≡ line_by number name policy joined.0 → (next : List Fill)
+      → HasJoined number name policy m old (after line next)
+  roster_joined old same joined line line_is next =
+      subst (λ (o : Roster). HasJoined number name policy m o (after line next)) same (record {
         one = joined.0;
         joins = joined.1;
         is = ap (λ (n : Series). record {
           code_words = n.code_words;
           lines = lines ++ line ∷ [];
           placed = n.placed;
+          cells = next;
         }) joined.2
             ∙ ap (λ (l : ModuleLine). record {
               code_words = s.code_words;
               lines = lines ++ l ∷ [];
               placed = s.placed ++ joined.0 ∷ [];
+              cells = next;
             }) line_is;
       })
 
-  abbrev back : List ModuleLine → Roster
-  back rest = record { code_words = new.code_words; lines = rest; placed = (without_last new).placed }
+  abbrev back : List ModuleLine → (cells : List Fill) → Roster
+  back rest kept =
+      record { code_words = new.code_words; lines = rest; placed = (without_last new).placed; cells = kept }
 
   -- without the module it is what it was
   pub roster_back : (old : Roster) → before ≡ old → SeriesHasJoined s new m → (rest : List ModuleLine) → rest ≡ lines
-      → back rest ≡ old
-  roster_back old same joined rest rest_is =
-      ap back rest_is
-      ∙ ap (λ (n : Series). record { code_words = n.code_words; lines = lines; placed = (without_last n).placed }) joined.2
-      ∙ ap (λ (ps : List Placed). record { code_words = s.code_words; lines = lines; placed = ps })
+      → (kept : List Fill) → kept ≡ cells → back rest kept ≡ old
+  roster_back old same joined rest rest_is kept kept_is =
+      ap (λ (ls : List ModuleLine). back ls kept) rest_is
+      ∙ ap (back lines) kept_is
+      ∙ ap (λ (n : Series). record {
+        code_words = n.code_words;
+        lines = lines;
+        placed = (without_last n).placed;
+        cells = cells;
+      }) joined.2
+      ∙ ap (λ (ps : List Placed). record { code_words = s.code_words; lines = lines; placed = ps; cells = cells })
       (init_of s.placed joined.0)
       ∙ same
 

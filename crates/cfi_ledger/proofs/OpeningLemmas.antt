@@ -3,6 +3,7 @@ use Rattle.std.proofs.Common.{◌≡◌, ℕ, List, [], length, All, refl, sym, 
 use Rattle.cfi_aux.specs.Sound.{IsSoundModule}
 use Rattle.cfi_aux.specs.declared.modules.Module.{Module}
 use Rattle.cfi_aux.specs.declared.placed.Placed.{Placed}
+use Rattle.cfi_graph.specs.Cell.{cells_of}
 use Rattle.cfi_graph.specs.Direct.{DirectEdge}
 use Rattle.cfi_model.specs.Closed.{IsClosed}
 use Rattle.cfi_plan.specs.declared.plan.Plan.{Plan}
@@ -15,8 +16,10 @@ use Rattle.cfi_valid.specs.Journal.{IsJournal}
 use Rattle.cfi_valid.specs.Loaded.{LoadedModule, placed_modules, loaded_by}
 use Rattle.cfi_valid.proofs.SeriesLemmas.{journal_series}
 use Rattle.cfi_word.specs.declared.lists.Image.{Image}
+use Rattle.cfi_ledger.specs.declared.books.Books.{Books}
 use Rattle.cfi_ledger.specs.Policies.{HavePolicies}
 use Rattle.cfi_ledger.specs.Entries.{HaveEntries, AllEnter, IsFirstOut}
+use Rattle.cfi_ledger.specs.Opening.{AreOpened, AreOpeningBooks, IsStartRoster}
 use Rattle.cfi_ledger.specs.Plans.{CanStart}
 use Rattle.cfi_valid.specs.Opening.{IsFirstLost}
 use Rattle.cfi_ledger.specs.Roster.{Roster, IsImageOfRoster, loaded_in_roster, origin_of}
@@ -40,6 +43,30 @@ module _ (plan : Plan) (loaded : List LoadedModule) (ms : List Placed)
   begins_to entry address begins = subst (λ (xs : List Placed). EntersIn plan xs entry address) same begins
 
 -- ---- the start
+
+-- the start modules, with their cells filled
+pub filled_opened : (plan : Plan) (modules : List Module) (r now : Roster) → IsStartRoster plan modules r
+    → now ≡ record r { cells = cells_of r.placed r.placed } → (b : Books) → AreOpeningBooks plan modules now b
+    → AreOpened plan modules b
+filled_opened plan modules r now start is b books =
+    let its = start.started in
+    let all : Roster = record r { cells = cells_of r.placed r.placed } in
+    record {
+      roster = all;
+      started = record {
+        roster_is = record {
+          code_words_are = its.roster_is.code_words_are;
+          many = its.roster_is.many;
+          lines_are = its.roster_is.lines_are;
+        };
+        starts = its.starts;
+        policies = its.policies;
+        order = its.order;
+      };
+      enter = start.enter;
+      filled = refl;
+      books = subst (λ (x : Roster). AreOpeningBooks plan modules x b) is books;
+    }
 
 module _ (plan : Plan) (modules : List Module) (can : CanStart plan modules) (r : Roster)
     (all : AreStarted plan modules (length plan.modules) r) where

@@ -90,7 +90,11 @@ module _ (plan : Plan) (modules : List Module) where
           let name : one.name ≡ planned_name plan.modules number =
           sym (ap (λ o. option_map_or (λ (x : PlanModule). x.name) o [])
           (slice_get-get_or plan.modules number one within ∙ ap (λ (x : PlanModule). Some x) (sym is))) in
-          let all : Roster = record r { lines = r.lines ++ line ∷ []; placed = r.placed ++ p ∷ [] } in
+          let all : Roster = record r {
+            lines = r.lines ++ line ∷ [];
+            placed = r.placed ++ p ∷ [];
+            cells = new.cells;
+          } in
           let more = starts_more plan modules number one within is (loaded_in_roster r) r.placed these start unplaced is_there
           p joins l refl refl (loaded_in_roster all) there in
           let started : AreStarted plan modules (number + 1) all = record {

@@ -16,7 +16,7 @@ use Rattle.cfi_ledger.specs.declared.fault.StartFault.TheVariants.{Open, Memory}
 use Rattle.cfi_ledger.specs.Entries.{AllEnter}
 use Rattle.cfi_ledger.specs.Force.{force_at}
 use Rattle.cfi_ledger.specs.Journal.{Minutes}
-use Rattle.cfi_ledger.specs.Roster.{Roster, IsBookOfRoster, IsImageOfRoster}
+use Rattle.cfi_ledger.specs.Roster.{Roster, IsBookOfRoster, IsFilled, IsImageOfRoster}
 use Rattle.cfi_ledger.specs.Starts.{AreStarted}
 
 -- ---- faults
@@ -67,9 +67,10 @@ pub record AreOpeningBooks (plan : Plan) (modules : List Module) (roster : Roste
   pub left_are : b.force.journal.left ≡ script_calls plan.script
   pub none_found : b.found.items ≡ replicate (length modules) None
 
--- they are those of the start modules, and each guest has somewhere to begin
+-- they are those of the start modules, whose cells are filled, and each guest has somewhere to begin
 pub record AreOpened (plan : Plan) (modules : List Module) (b : Books) : Type 0 where
   pub roster : Roster
   pub started : AreStarted plan modules (length plan.modules) roster
   pub enter : AllEnter plan roster.placed
+  pub filled : IsFilled roster
   pub books : AreOpeningBooks plan modules roster b

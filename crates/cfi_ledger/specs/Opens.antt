@@ -6,7 +6,7 @@ use Rattle.cfi_modules.specs.Entry.{IsGlobal, IsFirstOf, HasNoneOf}
 use Rattle.cfi_unit.specs.declared.fill.Fill.{Fill}
 use Rattle.cfi_unit.specs.declared.log.Log.{Log}
 use Rattle.cfi_valid.specs.Journal.{JournalState}
-use Rattle.cfi_valid.specs.Loaded.{LoadedModule, fills_between}
+use Rattle.cfi_valid.specs.Loaded.{LoadedModule, fills_between, Filled}
 use Rattle.cfi_valid.specs.Log.{HasFunctionAt, HasNoFunction}
 use Rattle.cfi_valid.specs.Replay.{given_by}
 use Rattle.cfi_word.specs.declared.services.TheConstants.{NO_FUNCTION}
@@ -26,6 +26,6 @@ abbrev pub given_reply : (address : Option ℕ) → (policy : ℕ) → List Fill
 given_reply (Some address) policy fills = reply_of address 0 policy fills
 given_reply None policy fills = reply_of 0 NO_FUNCTION policy []
 
--- its data is that which the guest lacks
+-- its data is that which the guest lacks, and then the cells
 abbrev pub open_reply : JournalState → (log : List Log) → (address : Option ℕ) → Reply
-open_reply s log address = given_reply address s.policy (fills_between (given_by log) s.policy s.loaded)
+open_reply s log address = given_reply address s.policy (fills_between Filled (given_by log) s.policy s.loaded)

@@ -1,14 +1,16 @@
 -- The loaded modules as they are kept: a line of a report for each, its data, and where it stands.
-use Rattle.std.specs.Prelude.{◌≡◌, ℕ, ◌+◌, ◌<◌, List, [], ◌∷◌, ◌++◌, length, map, vec_len, vec_capacity}
+use Rattle.std.specs.Prelude.{◌≡◌, ℕ, ◌+◌, ◌≤◌, ◌<◌, List, [], ◌∷◌, ◌++◌, length, map, take, drop, vec_len, vec_capacity}
 use Rattle.cfi_aux.specs.declared.modules.Module.{Module}
 use Rattle.cfi_aux.specs.declared.placed.Placed.{Placed}
 use Rattle.cfi_plan.specs.declared.journal.ModuleLine.{ModuleLine}
 use Rattle.cfi_plan.specs.declared.plan.Plan.{Plan}
+use Rattle.cfi_graph.specs.Cell.{cells_of}
 use Rattle.cfi_modules.specs.Fills.{fill_of, fills_of}
 use Rattle.cfi_policy.specs.Book.{KeptImage, StandsFor}
 use Rattle.cfi_modules.specs.Image.{IsImageOfSeries}
 use Rattle.cfi_modules.specs.Order.{Joins}
 use Rattle.cfi_modules.specs.Series.{Series, without_last}
+use Rattle.cfi_unit.specs.declared.fill.Fill.{Fill}
 use Rattle.cfi_valid.specs.Kept.{Origin, loaded_from}
 use Rattle.cfi_valid.specs.Loaded.{LoadedModule, module_line_of}
 use Rattle.cfi_word.specs.declared.lists.Image.{Image}
@@ -16,24 +18,35 @@ use Rattle.cfi_ledger.specs.declared.roster.Roster.TheInside.{Inside}
 use Rattle.cfi_ledger.specs.declared.candidate.Candidate.TheInside.{Inside as CandidateInside}
 use Rattle.cfi_ledger.specs.declared.offer.Offer.TheInside.{Inside as OfferInside}
 
--- the lines of a report, and what placing made of the modules
+-- the lines of a report, what placing made of the modules, and the cells that were filled last
 pub record Roster : Type 0 where
   pub code_words : ℕ
   pub lines : List ModuleLine
   pub placed : List Placed
+  pub cells : List Fill
 
 -- the modules as a series
 abbrev pub series_of : Roster → Series
 series_of roster = record { code_words = roster.code_words; placed = roster.placed }
 
--- what is kept, as clauses see it
+-- what is kept, as clauses see it: the cells stand behind the data of the modules
 abbrev pub roster_of : Inside → Roster
-roster_of a = record { code_words = a.series.code_words; lines = a.lines.items; placed = a.series.placed }
+roster_of a = record {
+  code_words = a.series.code_words;
+  lines = a.lines.items;
+  placed = a.series.placed;
+  cells = drop (length a.series.placed) a.fills.items;
+}
 
 -- a line for each module, and its data
 abbrev pub IsRoster : Inside → Type 0
 IsRoster a =
-    (length a.lines.items ≡ length a.series.placed) × (a.fills.items ≡ fills_of a.series.placed)
+    (length a.lines.items ≡ length a.series.placed)
+    × (take (length a.series.placed) a.fills.items ≡ fills_of a.series.placed)
+
+-- the cells are those of the modules, with what names mean among them
+abbrev pub IsFilled : Roster → Type 0
+IsFilled r = r.cells ≡ cells_of r.placed r.placed
 
 -- what a report says of a module of this number, name and policy
 abbrev pub line_by : (number : ℕ) → (name : List ℕ) → (policy : ℕ) → Placed → ModuleLine
@@ -64,13 +77,14 @@ pub record IsRosterOf (plan : Plan) (r : Roster) : Type 0 where
   pub many : length r.lines ≡ length r.placed
   pub lines_are : r.lines ≡ map (module_line_of plan.modules) (loaded_in_roster r)
 
--- a roster has a module more, which joins those before it
+-- a roster has a module more, which joins those before it; of its cells nothing is said
 pub record HasJoined (number : ℕ) (name : List ℕ) (policy : ℕ) (unplaced : Module) (old new : Roster) : Type 0 where
   pub one : Placed
   pub joins : Joins old.code_words old.placed unplaced one
   pub is : new ≡ record old {
     lines = old.lines ++ line_by number name policy one ∷ [];
     placed = old.placed ++ one ∷ [];
+    cells = new.cells;
   }
 
 -- the image is that of all modules of a roster, under their own policy
@@ -101,21 +115,23 @@ candidate_of a = record {
     code_words = a.prepared.code_words;
     lines = a.lines.items;
     placed = (without_last a.prepared).placed;
+    cells = drop (length a.lines.items) a.fills.items;
   };
   roster = record {
     code_words = a.prepared.code_words;
     lines = a.lines.items ++ a.line ∷ [];
     placed = a.prepared.placed;
+    cells = a.cells.items;
   };
   book = a.book;
 }
 
--- there is room for its line and its data
+-- there is room for its line, its data and the cells
 pub record IsCandidate (a : CandidateInside) : Type 0 where
   pub many : length a.lines.items + 1 ≡ length a.prepared.placed
-  pub fills : a.fills.items ++ a.fill ∷ [] ≡ fills_of a.prepared.placed
+  pub fills : take (length a.lines.items) a.fills.items ++ a.fill ∷ [] ≡ fills_of a.prepared.placed
   pub line_fits : vec_len a.lines < vec_capacity a.lines
-  pub fill_fits : vec_len a.fills < vec_capacity a.fills
+  pub fills_fit : vec_len a.fills + vec_len a.cells < vec_capacity a.fills
 
 -- ---- a module more, which is taken later
 
@@ -132,9 +148,13 @@ offer_of a = record { line = a.line; placed = a.placed }
 abbrev pub HasItsData : OfferInside → Type 0
 HasItsData a = a.fill ≡ fill_of a.placed
 
--- a roster with it
+-- a roster with it, in which no cells are filled
 abbrev pub with_offer : Offer → Roster → Roster
-with_offer offer r = record r { lines = r.lines ++ offer.line ∷ []; placed = r.placed ++ offer.placed ∷ [] }
+with_offer offer r = record r {
+  lines = r.lines ++ offer.line ∷ [];
+  placed = r.placed ++ offer.placed ∷ [];
+  cells = [];
+}
 
 -- a module of this number, name and policy joins the roster so
 pub record IsOffer (number : ℕ) (name : List ℕ) (policy : ℕ) (unplaced : Module) (r : Roster) (offer : Offer)

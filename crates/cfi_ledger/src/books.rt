@@ -12,7 +12,7 @@ ghost use Rattle.cfi_ledger.specs.Finding.{AreFindings, DoesJoin};
 ghost use Rattle.cfi_ledger.specs.Journal.{HasLine, HasRoomFor};
 ghost use Rattle.cfi_ledger.specs.Loads.{HasPrepared, IsKnown, IsUnprepared};
 ghost use Rattle.cfi_ledger.specs.Opens.{IsFirstGlobal};
-ghost use Rattle.cfi_ledger.specs.Roster.{IsBookOfRoster};
+ghost use Rattle.cfi_ledger.specs.Roster.{IsBookOfRoster, IsFilled};
 ghost use Rattle.cfi_policy.specs.Book.{KeepsNumbers};
 ghost use Rattle.cfi_word.specs.declared.limits.TheConstants.{MAX_EPOCH};
 
@@ -116,6 +116,7 @@ impl Books {
         ensures book { IfOk result (λ candidate. IsBookOfRoster candidate.roster candidate.book) }
         ensures kept { IfOk result (λ candidate.
             KeepsNumbers candidate.roster.placed self.old.book.image candidate.book.image) }
+        ensures cells { IfOk result (λ candidate. IsFilled candidate.roster) }
         ensures lent { OnOk result (self.new ≡ with_roster self.new.force.roster self.old) }
         ensures fault { IfErr result (IsUnprepared self.old number) }
         ensures same { OnErr result (self.new ≡ self.old) }

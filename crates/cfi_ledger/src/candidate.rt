@@ -11,7 +11,7 @@ use cfi_word::Image;
 use std::alloc::Global;
 use std::marker::Model;
 
-/// The loaded modules with one more, which may still be taken back, and the book of all.
+/// The loaded modules with one more, which may still be taken back, and the book and the cells of all.
 #[derive(Drop)]
 pub struct Candidate {
     pub(crate) prepared: Prepared,
@@ -19,6 +19,7 @@ pub struct Candidate {
     pub(crate) fills: Vec<Fill>,
     pub(crate) line: ModuleLine,
     pub(crate) fill: Fill,
+    pub(crate) cells: Vec<Fill>,
     pub(crate) book: Book,
     pub(crate) alloc: Global,
 }
@@ -41,7 +42,7 @@ impl Candidate {
         self.book.image()
     }
 
-    /// The second step of a load. It takes no memory.
+    /// The second step of a load: its data and the cells of all take the place of the cells before. It takes no memory.
     pub fn commit(self) -> (Roster, Book)
         ensures { result ≡ (self.roster, self.book) }
     {
@@ -51,11 +52,14 @@ impl Candidate {
             mut fills,
             line,
             fill,
+            mut cells,
             book,
             alloc,
         } = self;
+        fills.truncate(lines.len());
         lines.push_reserved(line);
         fills.push_reserved(fill);
+        fills.append(&mut cells).unwrap();
         let roster = Roster {
             series: prepared.commit(),
             lines,
@@ -75,6 +79,7 @@ impl Candidate {
             fills,
             line: _,
             fill: _,
+            cells: _,
             book: _,
             alloc,
         } = self;

@@ -1,11 +1,13 @@
 //! A module that is to join those that are loaded.
 
-ghost use Rattle.std.specs.Prelude.{◌≡◌, ◌<◌, IfOk, OnOk, length, vec_len, vec_capacity};
+ghost use Rattle.std.specs.Prelude.{◌≡◌, ◌+◌, ◌<◌, ◌^◌, IfOk, OnOk, length, vec_len, vec_capacity};
+ghost use Rattle.cfi_graph.specs.Cell.{cells_of};
 ghost use Rattle.cfi_modules.specs.Fills.{fill_of};
 ghost use Rattle.cfi_ledger.specs.Roster.{line_by};
 ghost use Rattle.cfi_valid.specs.Loaded.{planned_name};
 
 use cfi_aux::Placed;
+use cfi_modules::Series;
 use cfi_plan::{ModuleLine, Plan};
 use cfi_unit::Fill;
 use cfi_values::{Bytes, Text};
@@ -68,25 +70,52 @@ pub(crate) fn fill_of(alloc: Global, placed: &Placed) -> Result<Fill, AllocError
     })
 }
 
-/// The line and the data of a module, with room for both.
+/// The line and the data of a module, with room for both, and for so many cells.
 pub(crate) fn taken(
     alloc: Global,
     entrant: &Entrant<'_>,
     placed: &Placed,
+    cells: usize,
     lines: &mut Vec<ModuleLine>,
     fills: &mut Vec<Fill>,
 ) -> Result<(ModuleLine, Fill), AllocError>
+    requires { cells < 2 ^ 63 }
     ensures line { IfOk result (λ pair. pair.0
         ≡ line_by entrant.now.number entrant.now.name.now entrant.now.policy placed.now) }
     ensures fill { IfOk result (λ pair. pair.1 ≡ fill_of placed.now) }
     ensures lines { lines.new.items ≡ lines.old.items }
     ensures fills { fills.new.items ≡ fills.old.items }
     ensures line_fits { OnOk result (vec_len lines.new < vec_capacity lines.new) }
-    ensures fill_fits { OnOk result (vec_len fills.new < vec_capacity fills.new) }
+    ensures fills_fit { OnOk result (vec_len fills.new + cells < vec_capacity fills.new) }
 {
     lines.reserve(1)?;
-    fills.reserve(1)?;
+    fills.reserve(cells + 1)?;
     let line = line_of(alloc, entrant, placed)?;
     let fill = fill_of(alloc, placed)?;
     Ok((line, fill))
+}
+
+/// The line and the data of a module of a series, and the cells of all modules, with room for all of it.
+pub(crate) fn brought(
+    alloc: Global,
+    entrant: &Entrant<'_>,
+    series: &Series,
+    placed: &Placed,
+    lines: &mut Vec<ModuleLine>,
+    fills: &mut Vec<Fill>,
+) -> Result<(ModuleLine, Fill, Vec<Fill>), AllocError>
+    ensures line { IfOk result (λ all. all.0
+        ≡ line_by entrant.now.number entrant.now.name.now entrant.now.policy placed.now) }
+    ensures fill { IfOk result (λ all. all.1 ≡ fill_of placed.now) }
+    ensures cells { IfOk result (λ all.
+        all.2.items ≡ cells_of series.now.placed series.now.placed) }
+    ensures lines { lines.new.items ≡ lines.old.items }
+    ensures fills { fills.new.items ≡ fills.old.items }
+    ensures line_fits { OnOk result (vec_len lines.new < vec_capacity lines.new) }
+    ensures fills_fit { IfOk result (λ all.
+        vec_len fills.new + vec_len all.2 < vec_capacity fills.new) }
+{
+    let cells = series.cells()?;
+    let (line, fill) = taken(alloc, entrant, placed, cells.len(), lines, fills)?;
+    Ok((line, fill, cells))
 }

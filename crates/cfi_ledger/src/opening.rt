@@ -140,7 +140,8 @@ fn first_books(
 }
 
 impl Books {
-    /// The books of a plan before its first call. It opens as by `open_modules`, with the same faults.
+    /// The books of a plan before its first call, with the cells of its start modules filled. It opens as by
+    /// `open_modules`, with the same faults.
     ///
     /// `modules` are those of the plan, one a line.
     pub fn open(alloc: Global, plan: &Plan, modules: Items<Module>) -> Result<Books, StartFault>
@@ -149,7 +150,8 @@ impl Books {
         ensures fault { IfErr result (IsStartFault plan.now modules) }
     {
         let layout = Layout::new(plan.code_words).unwrap();
-        let roster = start_roster(alloc, &layout, plan, modules.as_slice())?;
+        let mut roster = start_roster(alloc, &layout, plan, modules.as_slice())?;
+        roster.fill_cells()?;
         let book = roster.book()?;
         first_books(alloc, layout, plan, modules, roster, book)
     }

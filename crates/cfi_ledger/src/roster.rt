@@ -2,19 +2,18 @@
 
 ghost use Rattle.std.specs.Prelude.{◌≡◌, ◌<◌, [], IfOk, IfErr, IfSome, IfNone, OnOk, OnErr, length, nat_le};
 ghost use Rattle.cfi_aux.specs.declared.placed.Placed.{Placed as PlacedModule};
-ghost use Rattle.cfi_modules.specs.Fills.{fills_of};
 ghost use Rattle.cfi_modules.specs.Loaded.{AreLoaded};
 ghost use Rattle.cfi_modules.specs.Order.{IsJoinFault, Joins};
 ghost use Rattle.cfi_modules.specs.Image.{IsOrderedImage};
 ghost use Rattle.cfi_modules.specs.Series.{CanBeTaken, CanRejoin, IsSeries};
 ghost use Rattle.cfi_ledger.specs.Loads.{IsListed, IsUnlisted};
-ghost use Rattle.cfi_ledger.specs.Roster.{series_of, with_offer, HasJoined, IsBookOfRoster, IsImageOfRoster, IsOffer};
+ghost use Rattle.cfi_ledger.specs.Roster.{series_of, with_offer, HasJoined, IsBookOfRoster, IsFilled, IsImageOfRoster, IsOffer};
 ghost use Rattle.cfi_policy.specs.Book.{KeepsNumbers};
 ghost use Rattle.cfi_valid.specs.declared.limits.TheConstants.{MAX_LOADED};
 
 use crate::book::booked;
 use crate::candidate::Candidate;
-use crate::entrant::{Entrant, taken};
+use crate::entrant::{Entrant, brought, taken};
 use crate::offer::{Offer, imaged};
 use cfi_aux::{Module, Placed};
 use cfi_modules::{JoinFault, Series};
@@ -58,7 +57,8 @@ pub struct Unjoined {
 impl Roster {
     /// No modules, in the code words of the layout. It takes no memory.
     pub fn new(alloc: Global, layout: &Layout) -> Roster
-        ensures { result ≡ record { code_words = layout.now; lines = []; placed = [] } }
+        ensures { result
+            ≡ record { code_words = layout.now; lines = []; placed = []; cells = [] } }
     {
         Roster {
             series: Series::new(alloc, layout),
@@ -68,7 +68,7 @@ impl Roster {
         }
     }
 
-    /// Adds a module, as `Series::add` does.
+    /// Adds a module, as `Series::add` does. No cells are filled.
     pub fn add(self, entrant: &Entrant<'_>, unplaced: &Module) -> Result<Roster, JoinFault>
         requires { CanBeTaken unplaced.now }
         ensures ok { IfOk result (λ roster. HasJoined entrant.now.number entrant.now.name.now
@@ -83,7 +83,8 @@ impl Roster {
         } = self;
         series.add(unplaced)?;
         let placed = &series.modules()[lines.len()];
-        let (line, fill) = taken(alloc, entrant, placed, &mut lines, &mut fills)?;
+        let (line, fill) = taken(alloc, entrant, placed, 0, &mut lines, &mut fills)?;
+        fills.truncate(lines.len());
         lines.push_reserved(line);
         fills.push_reserved(fill);
         Ok(Roster {
@@ -106,8 +107,8 @@ impl Roster {
         self.series.joins(unplaced)
     }
 
-    /// Places and verifies a module behind the others, and makes the book of all, behind that of the others: the first
-    /// step of a load.
+    /// Places and verifies a module behind the others, and makes the book of all, behind that of the others, and the
+    /// cells of all: the first step of a load.
     ///
     /// All memory that the load takes is taken here.
     pub fn prepare(
@@ -124,6 +125,7 @@ impl Roster {
         ensures book { IfOk result (λ candidate. IsBookOfRoster candidate.roster candidate.book) }
         ensures kept { IfOk result (λ candidate.
             KeepsNumbers candidate.roster.placed before.now.image candidate.book.image) }
+        ensures cells { IfOk result (λ candidate. IsFilled candidate.roster) }
         ensures fault { IfErr result (λ unjoined.
             IsJoinFault self.code_words self.placed unplaced.now unjoined.fault) }
         ensures same { IfErr result (λ unjoined. unjoined.roster ≡ self) }
@@ -150,13 +152,21 @@ impl Roster {
             }
         };
         let placed = &prepared.series().modules()[lines.len()];
-        match taken(alloc, entrant, placed, &mut lines, &mut fills) {
-            Ok((line, fill)) => Ok(Candidate {
+        match brought(
+            alloc,
+            entrant,
+            prepared.series(),
+            placed,
+            &mut lines,
+            &mut fills,
+        ) {
+            Ok((line, fill, cells)) => Ok(Candidate {
                 prepared,
                 lines,
                 fills,
                 line,
                 fill,
+                cells,
                 book,
                 alloc,
             }),
@@ -208,7 +218,8 @@ impl Roster {
         }
     }
 
-    /// Adds a module as it was offered, which joins the others still. It is not placed or verified again.
+    /// Adds a module as it was offered, which joins the others still. It is not placed or verified again, and no cells
+    /// are filled.
     ///
     /// Without memory the others stay as they are.
     pub fn take(&mut self, offer: Offer) -> Result<(), AllocError>
@@ -220,6 +231,7 @@ impl Roster {
         self.lines.reserve(1)?;
         self.fills.reserve(1)?;
         self.series.rejoin(placed)?;
+        self.fills.truncate(self.lines.len());
         self.lines.push_reserved(line);
         self.fills.push_reserved(fill);
         Ok(())
@@ -238,13 +250,6 @@ impl Roster {
         ensures { result ≡ nat_le MAX_LOADED (length self.now.lines) }
     {
         self.lines.len() >= MAX_LOADED as usize
-    }
-
-    /// The data of each.
-    pub fn fills(&self) -> &[Fill]
-        ensures { result.now ≡ fills_of self.now.placed }
-    {
-        &self.fills
     }
 
     /// What placing made of each.

@@ -98,6 +98,7 @@ passes_kept k b keeping out quiets kept guests =
         script = is.script;
       };
       roster_is = kept.roster_is;
+      filled = kept.filled;
       layout_is = kept.layout_is;
       book_is = kept.book_is;
       image_is = kept.image_is;

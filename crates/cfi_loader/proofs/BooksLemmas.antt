@@ -59,6 +59,7 @@ module _ (k : Key) (b : Books) (j : Minutes) (keeping : Keeping) (kept : BooksAg
           ledger = ledger_more k b.plan b.modules who what (ledger_of b keeping) (ledger_of told_there keeping)
               kept.ledger asks told kept.ledger.policies tells;
           roster_is = kept.roster_is;
+          filled = kept.filled;
           layout_is = kept.layout_is;
           book_is = kept.book_is;
           image_is = kept.image_is;
@@ -95,6 +96,7 @@ module _ (k : Key) (b : Books) (j : Minutes) (keeping : Keeping) (kept : BooksAg
           ledger = ledger_more k b.plan b.modules who what (ledger_of b keeping) (ledger_of told_there new)
               kept.ledger asks told kept.ledger.policies tells;
           roster_is = kept.roster_is;
+          filled = kept.filled;
           layout_is = kept.layout_is;
           book_is = kept.book_is;
           image_is = kept.image_is ∙ ap (λ (all : Keeping). (last_of all.entries).image) (sym new_is);
@@ -157,6 +159,7 @@ module _ (k : Key) (b : Books) (j : Minutes) (keeping : Keeping) (kept : BooksAg
               (ledger_of refreshed (grown_by again quiets keeping)) kept.ledger asks told
               (policies_same b.plan (end_of_books b) kept.ledger.policies (end_of_books refreshed) refl refl) tells;
           roster_is = kept.roster_is;
+          filled = kept.filled;
           layout_is = kept.layout_is;
           book_is = kept.book_is;
           image_is = kept.image_is ∙ ap (λ (e : TableEntry). e.image) (sym (last_more keeping.entries again));

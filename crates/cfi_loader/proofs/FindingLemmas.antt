@@ -22,6 +22,7 @@ module _ (k : Key) (b new : Books) (same : new ≡ record b { found = new.found 
       subst (λ (nb : Books). BooksAgree k nb keeping) (sym same) (record {
         ledger = kept.ledger;
         roster_is = kept.roster_is;
+        filled = kept.filled;
         layout_is = kept.layout_is;
         book_is = kept.book_is;
         image_is = kept.image_is;

@@ -27,7 +27,7 @@ use Rattle.cfi_loader.specs.inner.Books.{ledger_of, BooksAgree, IsAfter}
 use Rattle.cfi_ledger.specs.Loads.{HasPrepared, IsAbsent, IsListed}
 use Rattle.cfi_ledger.specs.Opens.{IsFirstGlobal}
 use Rattle.cfi_loader.specs.inner.Loads.{LoadsTo, Refuses, load_fault_by, update_line}
-use Rattle.cfi_ledger.specs.Roster.{Roster, IsBookOfRoster, line_by}
+use Rattle.cfi_ledger.specs.Roster.{Roster, IsBookOfRoster, IsFilled, line_by}
 use Rattle.cfi_loader.proofs.LineLemmas.{line_new, line_refused}
 use Rattle.cfi_loader.proofs.LoadLemmas.{places}
 use Rattle.cfi_loader.proofs.PrepareLemmas.{clean, load_made}
@@ -59,7 +59,7 @@ module _ (k : Key) (b : Books) (keeping : Keeping) (kept : BooksAgree k b keepin
         (ap (λ (m : Books). m.force.journal) lent) has
 
     -- its update was made
-    pub made_answers : (book : KeptImage) → IsBookOfRoster roster book → b.force.epoch < MAX_EPOCH
+    pub made_answers : IsFilled roster → (book : KeptImage) → IsBookOfRoster roster book → b.force.epoch < MAX_EPOCH
         → HasLine (asked_by who (LoadOk number (mid.force.epoch + 1) (mid.force.policy + 1))) mid.force.journal
         new.force.journal
         → new ≡ committed roster book new.force.journal mid
@@ -68,7 +68,7 @@ module _ (k : Key) (b : Books) (keeping : Keeping) (kept : BooksAgree k b keepin
         → answer.policy ≡ new.force.policy → (p : Placed)
         → IsFirstGlobal (get_or roster.placed (length roster.placed - 1) p) answer.address
         → LoadsTo k who number answer b new keeping after
-    made_answers book of left has same grown answer again epoch_of policy_of p first =
+    made_answers filled book of left has same grown answer again epoch_of policy_of p first =
         let there : Books = committed roster book new.force.journal b in
         let new_is : new ≡ there = same ∙ ap (committed roster book new.force.journal) lent in
         let grown_is : after ≡
@@ -80,8 +80,8 @@ module _ (k : Key) (b : Books) (keeping : Keeping) (kept : BooksAgree k b keepin
         let has_there : HasLine (asked_by who line) b.force.journal new.force.journal =
         subst (λ (m : Books). HasLine (asked_by who (LoadOk number (m.force.epoch + 1) (m.force.policy + 1)))
         m.force.journal new.force.journal) lent has in
-        let all = load_made k b keeping kept number roster prepared absent book of after.quiets who new.force.journal
-        left has_there asks in
+        let all = load_made k b keeping kept number roster prepared absent book of filled after.quiets who
+        new.force.journal left has_there asks in
         let with_after : IsAfter k (asked_by who line) b there keeping after =
         subst (IsAfter k (asked_by who line) b there keeping) (sym grown_is) all in
         let epoch_is : answer.epoch ≡ b.force.epoch + 1 = epoch_of ∙ ap (λ (m : Books). m.force.epoch) new_is in

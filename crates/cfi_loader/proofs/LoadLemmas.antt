@@ -45,13 +45,14 @@ use Rattle.cfi_ledger.specs.Journal.{asked_by, Minutes, HasLine}
 use Rattle.cfi_loader.specs.Told.{GoesOnBy, MayAskFor, HasTold}
 use Rattle.cfi_ledger.specs.Books.{committed, course_in, end_of_books, loaded_in}
 use Rattle.cfi_loader.specs.inner.Books.{ledger_of, BooksAgree, IsAfter}
-use Rattle.cfi_ledger.specs.Roster.{HasJoined, Roster, IsBookOfRoster, line_by, origin_of}
+use Rattle.cfi_ledger.specs.Roster.{HasJoined, Roster, IsBookOfRoster, IsFilled, line_by, origin_of}
 use Rattle.cfi_loader.proofs.BooksLemmas.{last_entry, one_left}
 use Rattle.cfi_ledger.proofs.EntryLemmas.{among_self, entry_of_all, loaded_all}
 use Rattle.cfi_ledger.proofs.FindingLemmas.{findings_more}
 use Rattle.cfi_ledger.proofs.JoinedLemmas.{joined_roster}
 use Rattle.cfi_loader.proofs.LedgerLemmas.{goes_later, ledger_more}
 use Rattle.cfi_ledger.proofs.PolicyLemmas.{policies_below, policies_more}
+use Rattle.cfi_unit.specs.declared.fill.Fill.{Fill}
 use Rattle.cfi_valid.proofs.KeptLemmas.{places_are, loaded_more}
 use Rattle.cfi_loader.proofs.TellLemmas.{tells_grown, last_more}
 
@@ -118,7 +119,7 @@ module _ (k : Key) (b : Books) (keeping : Keeping) (kept : BooksAgree k b keepin
 -- ---- the line of a load
 
 module _ (k : Key) (b : Books) (j : Minutes) (keeping : Keeping) (kept : BooksAgree k b keeping) (who : Who)
-    (number : ℕ) (unplaced : Module) (one : Placed) (book : KeptImage) (quiets : Quiets) where
+    (number : ℕ) (unplaced : Module) (one : Placed) (cells : List Fill) (book : KeptImage) (quiets : Quiets) where
   abbrev image : Image
   image = book.image
 
@@ -135,6 +136,7 @@ module _ (k : Key) (b : Books) (j : Minutes) (keeping : Keeping) (kept : BooksAg
   roster_there = record b.force.roster {
     lines = b.force.roster.lines ++ line ∷ [];
     placed = b.force.roster.placed ++ one ∷ [];
+    cells = cells;
   }
 
   abbrev loaded_books : Books
@@ -147,8 +149,9 @@ module _ (k : Key) (b : Books) (j : Minutes) (keeping : Keeping) (kept : BooksAg
       → MayAsk b.plan who what → b.force.epoch < MAX_EPOCH → slice_get b.modules number ≡ Some unplaced
       → IsSoundModule unplaced → ¬ IsLoaded (loaded_in b) number → length (loaded_in b) < MAX_LOADED
       → Joins b.plan.code_words b.force.roster.placed unplaced one
-      → IsBookOfRoster roster_there book → IsAfter k entry b loaded_books keeping (grown_by new quiets keeping)
-  after_load has asks may left is is_sound absent room joins book_is =
+      → IsBookOfRoster roster_there book → IsFilled roster_there
+      → IsAfter k entry b loaded_books keeping (grown_by new quiets keeping)
+  after_load has asks may left is is_sound absent room joins book_is filled =
       let all : List Placed = b.force.roster.placed ++ one ∷ [] in
       let many = kept.roster_is.many in
       let of : IsImage (DirectEdge all) all b.plan.code_words image =
@@ -204,11 +207,12 @@ module _ (k : Key) (b : Books) (j : Minutes) (keeping : Keeping) (kept : BooksAg
           ledger = ledger_more k b.plan b.modules who what (ledger_of b keeping)
               (ledger_of loaded_books (grown_by new quiets keeping)) kept.ledger asks told policies tells;
           roster_is = is_roster;
+          filled = filled;
           layout_is = kept.layout_is;
           book_is = book_is;
           image_is = ap (λ (e : TableEntry). e.image) (sym (last_more keeping.entries new));
           found_are = findings_more b.modules b.force.roster b.found.items kept.found_are
-              (b.force.roster.lines ++ line ∷ []) one;
+              (b.force.roster.lines ++ line ∷ []) one cells;
         };
         told = told;
       }

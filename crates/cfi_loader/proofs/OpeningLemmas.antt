@@ -33,7 +33,7 @@ use Rattle.cfi_ledger.specs.Entries.{AllEnter}
 use Rattle.cfi_ledger.specs.Finding.{AreFindings}
 use Rattle.cfi_ledger.specs.Journal.{Minutes}
 use Rattle.cfi_ledger.specs.Opening.{books_at, AreOpeningBooks}
-use Rattle.cfi_ledger.specs.Roster.{Roster, IsBookOfRoster}
+use Rattle.cfi_ledger.specs.Roster.{Roster, IsBookOfRoster, IsFilled}
 use Rattle.cfi_ledger.specs.Starts.{AreStarted, opened_state}
 use Rattle.cfi_ledger.proofs.EntryLemmas.{entry_of_all}
 use Rattle.cfi_ledger.proofs.FindingLemmas.{findings_none}
@@ -46,7 +46,8 @@ use Rattle.cfi_ledger.proofs.OpeningLemmas.{entries, journal_none, labels, place
 module _ (plan : Plan) (modules : List Module) (can : CanStart plan modules) (r : Roster)
     (all : AreStarted plan modules (length plan.modules) r) (book : KeptImage) (book_is : IsBookOfRoster r book)
     (j : Minutes)
-    (no_lines : j.lines ≡ []) (left : j.left ≡ script_calls plan.script) (enter : AllEnter plan r.placed) (b : Books)
+    (no_lines : j.lines ≡ []) (left : j.left ≡ script_calls plan.script) (enter : AllEnter plan r.placed)
+    (filled : IsFilled r) (b : Books)
     (none_found : b.found.items ≡ replicate (length modules) None) where
   abbrev k : Key
   k = key_by plan.code_words plan.versions plan.first book.image
@@ -102,6 +103,7 @@ module _ (plan : Plan) (modules : List Module) (can : CanStart plan modules) (r 
           ap (λ (lines : List Entry). made_by_script lines ++ j.left) no_lines ∙ left;
     };
     roster_is = all.roster_is;
+    filled = filled;
     layout_is = refl;
     book_is = book_is;
     image_is = refl;
@@ -113,11 +115,11 @@ module _ (plan : Plan) (modules : List Module) (can : CanStart plan modules) (r 
 module _ (plan : Plan) (modules : List Module) (can : CanStart plan modules) (r : Roster)
     (all : AreStarted plan modules (length plan.modules) r) (b : Books) (is : AreOpeningBooks plan modules r b) where
   pub first_kept : (k : Key) → k ≡ key_by plan.code_words plan.versions plan.first b.book.image → AllEnter plan r.placed
-      → BooksAgree k b (opened_keeping k)
-  first_kept k k_is enter =
+      → IsFilled r → BooksAgree k b (opened_keeping k)
+  first_kept k k_is enter filled =
       let key : Key = key_by plan.code_words plan.versions plan.first b.book.image in
       let kept : BooksAgree key (books_at plan modules r b.book b.force.journal b) (opened_keeping key) =
-      start_kept plan modules can r all b.book is.book_is b.force.journal is.lines_are is.left_are enter b
+      start_kept plan modules can r all b.book is.book_is b.force.journal is.lines_are is.left_are enter filled b
       is.none_found in
       subst (λ (x : Key). BooksAgree x b (opened_keeping x)) (sym k_is)
       (subst (λ (nb : Books). BooksAgree key nb (opened_keeping key)) (sym is.is) kept)

@@ -23,7 +23,7 @@ use Rattle.cfi_loader.specs.Told.{MayAskFor}
 use Rattle.cfi_ledger.specs.Books.{committed, end_of_books}
 use Rattle.cfi_loader.specs.inner.Books.{ledger_of, BooksAgree, IsAfter}
 use Rattle.cfi_ledger.specs.Loads.{HasPrepared, IsAbsent}
-use Rattle.cfi_ledger.specs.Roster.{Roster, IsBookOfRoster, IsImageOfRoster}
+use Rattle.cfi_ledger.specs.Roster.{Roster, IsBookOfRoster, IsFilled, IsImageOfRoster}
 use Rattle.cfi_loader.proofs.UpdateLemmas.{may_ask}
 use Rattle.cfi_loader.proofs.LoadLemmas.{places, load_follows, after_load}
 
@@ -72,17 +72,18 @@ module _ (k : Key) (b : Books) (keeping : Keeping) (kept : BooksAgree k b keepin
         inr (load_follows k b keeping kept prepared.unplaced one book.image is_sound joins_there labels mark
         absent.room)
 
-    pub load_made : (quiets : Quiets) (who : Who) (j : Minutes) → b.force.epoch < MAX_EPOCH
+    pub load_made : IsFilled roster → (quiets : Quiets) (who : Who) (j : Minutes) → b.force.epoch < MAX_EPOCH
         → HasLine (asked_by who (LoadOk number (b.force.epoch + 1) (b.force.policy + 1))) b.force.journal j
         → MayAskFor (ledger_of b keeping) who (Load number)
         → IsAfter k (asked_by who (LoadOk number (b.force.epoch + 1) (b.force.policy + 1))) b (committed roster book j b)
         keeping (grown_by (entry_by (b.force.policy + 1) book.image (mark_by who (Load number))) quiets keeping)
-    load_made quiets who j left has asks =
+    load_made filled quiets who j left has asks =
         let grown = grown_by (entry_by (b.force.policy + 1) book.image (mark_by who (Load number))) quiets keeping in
         let may = may_ask (ledger_of b keeping) who (Load number)
         (LoadOk number (b.force.epoch + 1) (b.force.policy + 1)) asks refl in
-        let all = after_load k b j keeping kept who number prepared.unplaced one book quiets has asks may left
+        let all = after_load k b j keeping kept who number prepared.unplaced one roster.cells book quiets has asks may left
         prepared.is is_sound absent.absent absent.room joins_there
-        (subst (λ (r : Roster). IsBookOfRoster r book) prepared.joined.is book_is) in
+        (subst (λ (r : Roster). IsBookOfRoster r book) prepared.joined.is book_is)
+        (subst IsFilled prepared.joined.is filled) in
         subst (λ (r : Roster). IsAfter k (asked_by who (LoadOk number (b.force.epoch + 1) (b.force.policy + 1))) b
         (committed r book j b) keeping grown) (sym prepared.joined.is) all

@@ -1,22 +1,25 @@
 -- What a loader tells, of its books.
-use Rattle.std.proofs.Common.{◌≡◌, ℕ, ◌≤◌, List, take, drop, All, Option, Some, None, sym, ap, ◌∙◌, arith}
+use Rattle.std.proofs.Common.{◌≡◌, ℕ, ◌≤◌, List, ◌++◌, take, drop, All, Option, Some, None, sym, ap, subst, ◌∙◌, arith}
 use Rattle.std.specs.Prelude.{IfSome}
 use Rattle.std.proofs.lemmas.List.{take-map}
-use Rattle.std.proofs.lemmas.List.Elements.{All-drop}
+use Rattle.std.proofs.lemmas.List.Elements.{All-append, All-drop}
 use Rattle.cfi_aux.specs.declared.placed.Placed.{Placed}
+use Rattle.cfi_graph.specs.Cell.{cells_of}
+use Rattle.cfi_graph.specs.Named.{entry_among}
 use Rattle.cfi_model.specs.Data.{LiesInData}
 use Rattle.cfi_modules.specs.Fills.{fills_of}
+use Rattle.cfi_modules.proofs.CellLemmas.{cells_lie}
 use Rattle.cfi_modules.proofs.PrefixLemmas.{data_lies}
 use Rattle.cfi_tables.specs.Keeping.{Keeping}
 use Rattle.cfi_tables.specs.Key.{Key}
 use Rattle.cfi_valid.specs.Guests.{EntersIn, GuestBegins}
-use Rattle.cfi_valid.specs.Loaded.{LoadedModule, placed_modules, loaded_by}
+use Rattle.cfi_valid.specs.Loaded.{LoadedModule, placed_modules, loaded_by, cells_at}
 use Rattle.cfi_word.specs.declared.limits.TheConstants.{MAX_POLICY}
 use Rattle.cfi_ledger.specs.declared.books.Books.{Books}
 use Rattle.cfi_ledger.specs.Force.{starts_in}
 use Rattle.cfi_ledger.specs.Books.{end_of_books, loaded_in}
 use Rattle.cfi_loader.specs.inner.Books.{BooksAgree}
-use Rattle.cfi_ledger.proofs.DueLemmas.{starts_are, starts_first}
+use Rattle.cfi_ledger.proofs.DueLemmas.{last_cells, starts_are, starts_first}
 use Rattle.cfi_loader.proofs.LoadLemmas.{places, series}
 use Rattle.cfi_ledger.proofs.OpeningLemmas.{begins_from, begins_to}
 
@@ -47,12 +50,23 @@ module _ (k : Key) (b : Books) (keeping : Keeping) (kept : BooksAgree k b keepin
         (begins_to b.plan (loaded_in b) (take first ms) (starts_placed ∙ ap (take first) (sym same)) name address
         begins)
 
-  -- ---- the data that a guest lacks
+  -- ---- what a guest is given
 
   pub policy_most : b.force.policy ≤ MAX_POLICY
   policy_most = omega (arith, kept.ledger.policies.count, kept.ledger.policies.most)
 
-  pub fills_lie : (given : ℕ) → All LiesInData (drop given (fills_of b.force.roster.placed))
+  pub fills_lie : (given : ℕ)
+      → All LiesInData (drop given (fills_of b.force.roster.placed) ++ b.force.roster.cells)
   fills_lie given =
-      All-drop LiesInData given (fills_of b.force.roster.placed)
-      (data_lies b.plan.code_words b.force.roster.placed (series k b keeping kept))
+      let placed = b.force.roster.placed in
+      let lies = data_lies b.plan.code_words placed (series k b keeping kept) in
+      All-append LiesInData (drop given (fills_of placed)) b.force.roster.cells
+      (All-drop LiesInData given (fills_of placed) lies)
+      (subst (All LiesInData) (sym kept.filled) (cells_lie (entry_among placed) placed lies))
+
+  -- all that is loaded is filled
+  pub cells_are : b.force.roster.cells ≡ cells_at b.force.policy (loaded_in b)
+  cells_are =
+      kept.filled
+      ∙ ap (λ (ps : List Placed). cells_of ps ps) (sym (places k b keeping kept))
+      ∙ sym (last_cells b.plan (end_of_books b) kept.ledger.policies)

@@ -60,6 +60,7 @@ module _ (k : Key) (b : Books) (keeping : Keeping) (j : Minutes) (starved : Bool
     ledger = subst (IsLedger k b.plan b.modules) (sym (reserved_ledger lines left))
         (starved_ledger k b.plan b.modules (ledger_of b keeping) starved kept.ledger);
     roster_is = kept.roster_is;
+    filled = kept.filled;
     layout_is = kept.layout_is;
     book_is = kept.book_is;
     image_is = kept.image_is;

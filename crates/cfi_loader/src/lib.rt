@@ -8,8 +8,8 @@
 //! that its answer tells (`specs/Told.antt`, `specs/Results.antt`), and a refusal leaves tables, code and modules as
 //! they were; the image that a load puts in force keeps the class numbers of the one before; a line is told in a
 //! guest's name by its slip alone, which says these lines in order; a load that fits is made, or no version or no epoch
-//! is left; an answer to an open brings the data that the guest lacks. Only tested: nothing. Open: that memory
-//! suffices; what a load costs.
+//! is left; an answer to an open brings the data that the guest lacks, and then the cells of all loaded modules. Only
+//! tested: nothing. Open: that memory suffices; what a load costs.
 #![tactic(auto)]
 
 mod fault;

@@ -184,8 +184,8 @@ fn load<N: TableName>(
 
 impl<N: LoaderName> Loader<N> {
     /// Loads the module of this number of the plan: places and verifies it behind those that are loaded, makes the
-    /// image of all, in which classes keep their numbers, and puts it in force with the next policy, which each guest's
-    /// QUIET word has admitted. A module that is loaded answers at once.
+    /// image of all, in which classes keep their numbers, and the cells of all, and puts it in force with the next
+    /// policy, which each guest's QUIET word has admitted. A module that is loaded answers at once.
     ///
     /// Each answer but `Memory` adds one line to the journal. A refusal leaves the tables, the code and the modules as
     /// they were; all memory is taken before the first word is stored, and want of it marks the loader starved. The

@@ -3,7 +3,7 @@
 ghost use Rattle.std.specs.Prelude.{◌≡◌, ℕ, Some, IfSome, IfNone, map, option_map, slice_get};
 ghost use Rattle.cfi_modules.specs.Fills.{fills_of};
 ghost use Rattle.cfi_valid.specs.Guests.{GuestBegins};
-ghost use Rattle.cfi_valid.specs.Loaded.{placed_modules, module_line_of};
+ghost use Rattle.cfi_valid.specs.Loaded.{placed_modules, module_line_of, with_cells, Filled};
 ghost use Rattle.cfi_valid.specs.Script.{made_by_script, script_calls};
 ghost use Rattle.cfi_ledger.specs.Calls.{call_due};
 ghost use Rattle.cfi_loader.specs.Ledger.{IsLedger};
@@ -56,9 +56,10 @@ impl<N: LoaderName> Loader<N> {
         self.books.force.roster.lines()
     }
 
-    /// The data of the loaded modules, in load order.
+    /// The data of the loaded modules, in load order, and then the cells at the policy in force.
     pub fn fills(&self) -> &[Fill]
-        ensures { result.now ≡ fills_of (placed_modules self.now.course.end.loaded) }
+        ensures { let end = self.now.course.end in result.now
+            ≡ with_cells Filled end.policy end.loaded (fills_of (placed_modules end.loaded)) }
     {
         self.books.force.roster.fills()
     }

@@ -12,7 +12,7 @@ use Rattle.cfi_loader.specs.Ledger.{Ledger, IsLedger}
 use Rattle.cfi_loader.specs.Told.{HasTold}
 use Rattle.cfi_ledger.specs.Finding.{AreFindings}
 use Rattle.cfi_ledger.specs.Books.{course_in}
-use Rattle.cfi_ledger.specs.Roster.{IsBookOfRoster, IsRosterOf}
+use Rattle.cfi_ledger.specs.Roster.{IsBookOfRoster, IsFilled, IsRosterOf}
 
 -- what a loader keeps, as clauses see it
 abbrev pub ledger_of : Books → Keeping → Ledger
@@ -27,6 +27,7 @@ ledger_of b keeping = record {
 pub record BooksAgree (k : Key) (b : Books) (keeping : Keeping) : Type 0 where
   pub ledger : IsLedger k b.plan b.modules (ledger_of b keeping)
   pub roster_is : IsRosterOf b.plan b.force.roster
+  pub filled : IsFilled b.force.roster
   pub layout_is : b.layout ≡ b.plan.code_words
   pub book_is : IsBookOfRoster b.force.roster b.book
   pub image_is : b.book.image ≡ (last_of keeping.entries).image

@@ -95,7 +95,7 @@ returns-in-Ok-update-clause-ok g c =
     c.load_mark-mark.ensures in
     let one = sized 0 0 0 0 0 0 refl in
     made_answers k b keeping kept c.args.who c.args.number c.requires.asks c.requires.absent mid c.commit.new.books
-    p.lent candidate.roster p.ok c.update.new.self candidate.book p.book left c.commit.ensures.line
+    p.lent candidate.roster p.ok c.update.new.self p.cells candidate.book p.book left c.commit.ensures.line
     c.commit.ensures.same grown c.commit.result c.commit.ensures.again c.commit.ensures.epoch
     c.commit.ensures.policy one
     (c.commit.ensures.address one)

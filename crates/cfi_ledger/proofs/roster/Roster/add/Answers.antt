@@ -1,4 +1,4 @@
-use Rattle.std.proofs.Common.{◌≡◌, List, [], ◌∷◌, ◌++◌, length, get_or, ap, sym, subst, ◌∙◌, arith}
+use Rattle.std.proofs.Common.{◌≡◌, List, [], ◌∷◌, ◌++◌, length, drop, get_or, ap, sym, subst, ◌∙◌, arith}
 use Rattle.std.proofs.lemmas.List.{get_or_push}
 use Rattle.cfi_aux.specs.declared.placed.Placed.{Placed}
 use Rattle.cfi_plan.specs.declared.journal.ModuleLine.{ModuleLine}
@@ -26,7 +26,8 @@ returns-clause-ok c =
     let line_is = c.in_ok-line.ensures.line ∙ ap (line_by entrant.number entrant.name.now entrant.policy) at in
     let lines_are : c.push_reserved.new.self.items ≡ c.self.inside.lines.items ++ line ∷ [] =
     c.push_reserved.ensures.items ∙ ap (λ (ls : List ModuleLine). ls ++ line ∷ []) c.taken.ensures.lines in
+    let cells = drop (length new.placed) c.push_reserved-2.new.self.items in
     subst (λ (ls : List ModuleLine). HasJoined entrant.number entrant.name.now entrant.policy c.args.unplaced.now
-    c.args.self (record { code_words = new.code_words; lines = ls; placed = new.placed })) (sym lines_are)
+    c.args.self (record { code_words = new.code_words; lines = ls; placed = new.placed; cells = cells })) (sym lines_are)
     (roster_joined entrant.number entrant.policy entrant.name.now c.args.unplaced.now s new c.self.inside.lines.items
-    c.args.self c.self.view_is joined line line_is)
+    (drop (length s.placed) c.self.inside.fills.items) c.args.self c.self.view_is joined line line_is cells)

@@ -1,8 +1,8 @@
-use Rattle.std.proofs.Common.{◌≡◌, length, ap, sym, subst, ◌∙◌}
+use Rattle.std.proofs.Common.{◌≡◌, length, take, drop, ap, sym, subst, ◌∙◌}
 use Rattle.cfi_modules.specs.Fills.{fills_of}
 use Rattle.cfi_modules.specs.Series.{Series}
 use Rattle.cfi_ledger.specs.Roster.{line_by}
-use Rattle.cfi_ledger.proofs.JoinedLemmas.{offered_order, roster_offered}
+use Rattle.cfi_ledger.proofs.JoinedLemmas.{offered_order, roster_by, roster_offered}
 use Rattle.cfi_ledger.proofs.roster.Roster.offer.Goals as goal
 
 -- the series is what it was
@@ -12,7 +12,7 @@ invariant_of-self c =
     let back = c.withdraw-series.ensures c.replace-series.result joined.0 joined.2 in
     let rest = ap (λ pair. pair.0) back ∙ c.replace-series.ensures.value in
     subst (λ (s : Series). (length c.self.inside.lines.items ≡ length s.placed)
-    × (c.self.inside.fills.items ≡ fills_of s.placed)) (sym rest) c.self.invariant
+    × (take (length s.placed) c.self.inside.fills.items ≡ fills_of s.placed)) (sym rest) c.self.invariant
 
 -- the module joins as it was given back
 pub returns-in_ok-offer-in-Ok-clause-ok : goal.returns-in_ok-offer-in-Ok-clause-ok
@@ -23,10 +23,9 @@ returns-in_ok-offer-in-Ok-clause-ok c =
     let lines = c.self.inside.lines.items in
     let back = c.withdraw-series.ensures s joined.0 joined.2 in
     let its = c.in_ok-offer-in-Ok.ensures in
-    let same = ap (λ (t : Series). record { code_words = t.code_words; lines = lines; placed = t.placed })
-    c.replace-series.ensures.value ∙ c.self.view_is in
+    let same = ap (roster_by lines c.self.inside.fills.items) c.replace-series.ensures.value ∙ c.self.view_is in
     roster_offered entrant.number entrant.policy entrant.name.now c.args.unplaced.now s c.in-Ok.prepared lines
-    c.args.self.now same joined c.in_ok-offer-in-Ok.offer (its.placed ∙ ap (λ pair. pair.1) back)
+    (drop (length s.placed) c.self.inside.fills.items) c.args.self.now same joined c.in_ok-offer-in-Ok.offer (its.placed ∙ ap (λ pair. pair.1) back)
     (its.line ∙ ap (line_by entrant.number entrant.name.now entrant.policy) (sym its.placed))
 
 -- and the image is that of all with it
@@ -37,8 +36,7 @@ returns-in_ok-offer-in-Ok-clause-ordered c =
     let s = c.replace-series.result in
     let lines = c.self.inside.lines.items in
     let back = c.withdraw-series.ensures s joined.0 joined.2 in
-    let same = ap (λ (t : Series). record { code_words = t.code_words; lines = lines; placed = t.placed })
-    c.replace-series.ensures.value ∙ c.self.view_is in
+    let same = ap (roster_by lines c.self.inside.fills.items) c.replace-series.ensures.value ∙ c.self.view_is in
     offered_order entrant.number entrant.policy entrant.name.now c.args.unplaced.now s c.in-Ok.prepared lines
-    c.args.self.now same joined c.in_ok-offer-in-Ok.offer
+    (drop (length s.placed) c.self.inside.fills.items) c.args.self.now same joined c.in_ok-offer-in-Ok.offer
     (c.in_ok-offer-in-Ok.ensures.placed ∙ ap (λ pair. pair.1) back) c.in-Ok.image c.in-Ok.ensures.ordered

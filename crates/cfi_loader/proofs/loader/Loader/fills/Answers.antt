@@ -1,13 +1,23 @@
-use Rattle.std.proofs.Common.{ap, sym, ◌∙◌}
+use Rattle.std.proofs.Common.{List, ◌++◌, ap, sym, ◌∙◌}
+use Rattle.cfi_aux.specs.declared.placed.Placed.{Placed}
+use Rattle.cfi_ledger.specs.Books.{loaded_in}
 use Rattle.cfi_modules.specs.Fills.{fills_of}
-use Rattle.cfi_valid.specs.Loaded.{placed_modules}
+use Rattle.cfi_unit.specs.declared.fill.Fill.{Fill}
+use Rattle.cfi_valid.specs.Loaded.{placed_modules, with_cells, Filled}
 use Rattle.cfi_loader.specs.Ledger.{Ledger}
 use Rattle.cfi_loader.proofs.LoadLemmas.{places}
+use Rattle.cfi_loader.proofs.ReadLemmas.{cells_are}
 use Rattle.cfi_loader.proofs.loader.Loader.fills.Goals as goal
 
+-- the data of all, and the cells of all
 pub returns : goal.returns
 returns g c =
     let a = c.self.inside in
+    let kept = c.self.invariant.kept in
+    let placed = a.books.force.roster.placed in
     c.fills.ensures
-    ∙ ap fills_of (sym (places g.N.TableName.key a.books a.keeper c.self.invariant.kept))
-    ∙ ap (λ (l : Ledger). fills_of (placed_modules l.course.end.loaded)) c.self.view_is
+    ∙ ap (λ (fs : List Fill). fills_of placed ++ fs) (cells_are g.N.TableName.key a.books a.keeper kept)
+    ∙ ap (λ (ps : List Placed). with_cells Filled a.books.force.policy (loaded_in a.books) (fills_of ps))
+    (sym (places g.N.TableName.key a.books a.keeper kept))
+    ∙ ap (λ (l : Ledger). with_cells Filled l.course.end.policy l.course.end.loaded
+    (fills_of (placed_modules l.course.end.loaded))) c.self.view_is

@@ -1,4 +1,4 @@
-use Rattle.std.proofs.Common.{◌≡◌, ◌+◌, ◌≤◌, ℕ, List, drop, All, sym, ap, subst, ◌∙◌}
+use Rattle.std.proofs.Common.{◌+◌, ◌≤◌, ◌++◌, ℕ, List, drop, All, sym, ap, subst, ◌∙◌}
 use Rattle.cfi_ledger.specs.Force.{starts_in}
 use Rattle.cfi_ledger.specs.Opens.{given_reply}
 use Rattle.cfi_ledger.proofs.DueLemmas.{fills_due, given_inside, given_policy}
@@ -24,10 +24,9 @@ answer-requires g c =
     let guest = c.args.guest.now in
     let policy : ℕ = a.books.force.policy in
     let address = c.args.loaded.now.address in
-    let first : ℕ = c.due_from-first.result in
-    let fills : List Fill = drop first c.fills-fills.result.now in
-    let lies : All LiesInData fills = subst (λ (fs : List Fill). All LiesInData (drop first fs)) (sym c.fills-fills.ensures)
-    (fills_lie g.N.TableName.key a.books a.keeper c.self.invariant.kept first) in
+    let fills : List Fill = c.due-fills.result.now in
+    let lies : All LiesInData fills = subst (All LiesInData) (sym c.due-fills.ensures)
+    (fills_lie g.N.TableName.key a.books a.keeper c.self.invariant.kept (starts_in a.books.force + given_by c.log.result.now)) in
     let same = sym (given_policy address policy fills) in
     subst (λ (r : Reply). MayAnswer r guest) (sym c.open_answer.ensures) (record {
       waiting = c.requires.waits;
@@ -49,11 +48,10 @@ returns g c =
     let address = c.args.loaded.now.address in
     let f = a.books.force in
     let kept = c.self.invariant.kept in
-    let first = c.due_from-first.ensures ∙ ap (λ (l : List Log). starts_in f + given_by l) c.log.ensures.entries in
-    let due : drop c.due_from-first.result c.fills-fills.result.now ≡ _ =
-    ap (drop c.due_from-first.result) c.fills-fills.ensures
-    ∙ ap (λ (n : ℕ). drop n (fills_of f.roster.placed)) first
-    ∙ sym (fills_due a.books.plan f kept.ledger.policies kept.roster_is (given_by log)) in
+    let due = c.due-fills.ensures
+    ∙ ap (λ (l : List Log). drop (starts_in f + given_by l) (fills_of f.roster.placed) ++ f.roster.cells)
+    c.log.ensures.entries
+    ∙ sym (fills_due a.books.plan f kept.ledger.policies kept.roster_is kept.filled (given_by log)) in
     c.answer.ensures
     ∙ ap (serve_of guest) (c.open_answer.ensures ∙ ap (given_reply address a.books.force.policy) due)
     ∙ ap (λ (l : Ledger). serve_of guest (reply_with l log address)) c.self.view_is

@@ -27,7 +27,7 @@ invariant_of-result c =
     ∙ ap (λ (n : ℕ). key_by n plan.versions plan.first b.book.image) layout in
     record {
       kept = first_kept plan c.args.modules c.requires opened.roster opened.started b opened.books
-          c.in_ok-blank.blank.key key opened.enter;
+          c.in_ok-blank.blank.key key opened.enter opened.filled;
       untold = opened.books.lines_are;
     }
 
