@@ -3,12 +3,14 @@ use Rattle.std.proofs.Common.{◌≡◌, ◌≢◌, ℕ, ◌-◌, ◌*◌, ◌<�
 use Rattle.std.specs.List.{slice_get, cons_option, Contains}
 use Rattle.std.proofs.Math.Seq.{take-length}
 use Rattle.std.proofs.lemmas.List.{length-map, take_all}
+use Rattle.std.proofs.lemmas.List.Elements.{All-append}
 use Rattle.std.proofs.lemmas.Option.{get_or_from_slice_get, none-some, same_Some, slice_get_within}
 use Rattle.cfi_aux.specs.Sound.{IsSoundModule}
 use Rattle.cfi_aux.specs.declared.modules.Module.{Module}
 use Rattle.cfi_aux.specs.declared.placed.Placed.{Placed}
 use Rattle.cfi_guest_run.specs.Runner.{IsOpening}
 use Rattle.cfi_graph.proofs.BoundLemmas.{contains_at}
+use Rattle.cfi_graph.specs.Named.{entry_among}
 use Rattle.cfi_loader.specs.Ledger.{Ledger, IsLedger}
 use Rattle.cfi_ledger.specs.Policies.{IsEntryOf}
 use Rattle.cfi_ledger.proofs.DueLemmas.{starts_first}
@@ -27,6 +29,7 @@ use Rattle.cfi_modules.specs.Order.{Joins, names_of}
 use Rattle.cfi_modules.specs.Room.{room_after}
 use Rattle.cfi_modules.proofs.ImageLemmas.{entry_start, function_start}
 use Rattle.cfi_modules.proofs.PlacedLemmas.{fits}
+use Rattle.cfi_modules.proofs.CellLemmas.{cells_lie}
 use Rattle.cfi_modules.proofs.PrefixLemmas.{data_lies}
 use Rattle.cfi_tables.specs.Keeping.{last_of}
 use Rattle.cfi_tables.specs.Key.{Key}
@@ -36,7 +39,7 @@ use Rattle.cfi_unit.specs.declared.fill.Fill.{Fill}
 use Rattle.cfi_valid.specs.Bare.{is_bare_plan}
 use Rattle.cfi_valid.specs.Guests.{EntersAt, GuestBegins}
 use Rattle.cfi_valid.specs.Journal.{IsOpeningState, modules_at, starts_from}
-use Rattle.cfi_valid.specs.Loaded.{LoadedModule, placed_modules, loaded_by, live_at, start_fills}
+use Rattle.cfi_valid.specs.Loaded.{LoadedModule, placed_modules, loaded_by, live_at, Filled, cells_at, with_cells, start_fills}
 use Rattle.cfi_valid.proofs.SeriesLemmas.{journal_series}
 use Rattle.cfi_word.specs.declared.map.TheConstants.{FIRST_BASE}
 use Rattle.cfi_word.specs.declared.lists.Image.{Image}
@@ -176,16 +179,34 @@ module _ (k : Key) (plan : Plan) (modules : List Module) (l : Ledger) (is : IsLe
   begins_start true same code entry address enters = subst (IsStartIn image) (sym enters) (bare_start (code same))
   begins_start false same code entry address enters = named_start entry address enters
 
-  -- ---- the data of the start modules
+  -- ---- what a guest is given at its start
 
-  pub fills_same : start_fills loaded ≡ fills_of (placed_modules loaded)
-  fills_same = ap (λ (ls : List LoadedModule). fills_of (placed_modules ls)) all_first
+  -- the data of all that is loaded, and behind it the cells
+  abbrev pub given : List Fill
+  given = with_cells Filled l.course.end.policy loaded (fills_of (placed_modules loaded))
+
+  given_first : given ≡ start_fills Filled loaded
+  given_first =
+      ap (λ (policy : ℕ). with_cells Filled policy loaded (fills_of (placed_modules loaded))) opens.policy
+      ∙ ap (λ (ls : List LoadedModule). with_cells Filled 0 loaded (fills_of (placed_modules ls))) (sym all_first)
+
+  -- it lies in private data
+  pub given_lies : All LiesInData given
+  given_lies =
+      let sound : All IsSoundModule l.course.modules = λ at d within. (is.can_start.taken at d within).sound in
+      let series = journal_series l.course.plan l.course.modules l.course.journal l.course.end is.can_start.code_words
+      sound is.course in
+      let lies : All LiesInData (fills_of first) =
+      subst (λ (ls : List LoadedModule). All LiesInData (fills_of (placed_modules ls))) (sym all_first)
+      (data_lies words (placed_modules loaded) series) in
+      subst (All LiesInData) (sym given_first)
+      (All-append LiesInData (fills_of first) (cells_at 0 loaded) lies (cells_lie (entry_among first) first lies))
 
   -- ---- a guest that is opened there, with a pass that is admitted
 
   pub opening : (number : ℕ) (entry : List ℕ) (address : ℕ) (fills : List Fill) (p : PassView) → HasCode plan modules
       → slice_get plan.guests number ≡ Some entry → GuestBegins plan loaded entry address
-      → fills ≡ fills_of (placed_modules loaded) → p ≡ admitted k l.keeping p.guest → p.guest ≡ number
+      → fills ≡ given → p ≡ admitted k l.keeping p.guest → p.guest ≡ number
       → IsOpening k plan modules p (raw_opened number address fills)
   opening number entry address fills p code entry_is begins fills_are pass same = record {
     ledger = l;
@@ -198,16 +219,7 @@ module _ (k : Key) (plan : Plan) (modules : List Module) (l : Ledger) (is : IsLe
       begins = begins;
       is =
           ap (λ (n : ℕ). raw_opened n address fills) (sym same)
-          ∙ ap (raw_opened p.guest address) (fills_are ∙ sym fills_same);
+          ∙ ap (raw_opened p.guest address) (fills_are ∙ given_first);
     };
     starts = begins_start (is_bare_plan plan) refl code entry address begins;
   }
-
--- the data of all loaded modules lies in private data
-pub fills_lie : (k : Key) (plan : Plan) (modules : List Module) (l : Ledger) → IsLedger k plan modules l
-    → All LiesInData (fills_of (placed_modules l.course.end.loaded))
-fills_lie k plan modules l is =
-    let sound : All IsSoundModule l.course.modules = λ at d within. (is.can_start.taken at d within).sound in
-    data_lies l.course.plan.code_words (placed_modules l.course.end.loaded)
-    (journal_series l.course.plan l.course.modules l.course.journal l.course.end is.can_start.code_words sound
-    is.course)

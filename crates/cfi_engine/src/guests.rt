@@ -26,7 +26,8 @@ fn entry_of(plan: &Plan, number: usize) -> &str
     plan.guests.as_slice()[number].as_str()
 }
 
-// Opens the guest of this number at its entry, with the data of the start modules, and admits it: its pass and its slip.
+// Opens the guest of this number at its entry, with the data of the start modules and the cells, and admits it: its pass
+// and its slip.
 fn open_guest<N: LoaderName>(
     alloc: Global,
     loader: &mut Loader<N>,
@@ -48,7 +49,8 @@ fn open_guest<N: LoaderName>(
     Ok(Runner::new(guest, pass, slip))
 }
 
-/// Opens all guests of the plan, in order: each at its entry, with the data of the start modules, a pass and a slip.
+/// Opens all guests of the plan, in order: each at its entry, with the data of the start modules and the cells, a pass and
+/// a slip.
 ///
 /// Nothing was loaded since the start, and no pass is out. Where no memory is left, some passes may have gone out; of
 /// what the loader keeps nothing else is changed, either way.

@@ -1,13 +1,15 @@
 -- A runner after the answer to an open of a module of the plan.
-use Rattle.std.proofs.Common.{◌≡◌, ◌≢◌, ◌≤◌, ◌<◌, ℕ, Option, Some, None, All, List, [], ◌∷◌, ◌++◌, refl, sym, ap, subst, ◌∙◌, arith}
-use Rattle.std.proofs.lemmas.List.Elements.{All-drop, All-nil}
+use Rattle.std.proofs.Common.{◌≡◌, ◌≢◌, ◌≤◌, ◌<◌, ◌&&◌, ℕ, Bool, Option, Some, None, All, List, [], ◌∷◌, ◌++◌, refl, sym, ap, subst, ◌∙◌, arith}
+use Rattle.std.specs.Prelude.{filter, nat_le, nat_lt}
+use Rattle.std.proofs.lemmas.List.Elements.{All-append, All-cons, All-filter, All-head, All-map, All-nil, All-tail}
 use Rattle.cfi_aux.specs.declared.modules.Module.{Module}
+use Rattle.cfi_aux.specs.declared.placed.Placed.{Placed}
+use Rattle.cfi_graph.specs.Named.{entry_among}
 use Rattle.cfi_loader.specs.Ledger.{Ledger, IsLedger}
 use Rattle.cfi_loader.specs.Passes.{reply_with}
 use Rattle.cfi_ledger.specs.Opens.{IsAddressOf}
 use Rattle.cfi_ledger.specs.Journal.{asked_by}
 use Rattle.cfi_loader.specs.Told.{HasTold}
-use Rattle.cfi_ledger.proofs.DueLemmas.{later_fills}
 use Rattle.cfi_ledger.proofs.PolicyLemmas.{policies_below}
 use Rattle.cfi_model.specs.declared.act.Wait.TheVariants as waits
 use Rattle.cfi_model.specs.Data.{LiesInData}
@@ -20,8 +22,9 @@ use Rattle.cfi_plan.specs.declared.journal.JournalLine.{JournalLine}
 use Rattle.cfi_plan.specs.declared.journal.Who.TheVariants.{Guest}
 use Rattle.cfi_plan.specs.declared.plan.Plan.{Plan}
 use Rattle.cfi_runner.specs.Laws.{MayServe}
-use Rattle.cfi_modules.specs.Fills.{fills_of}
+use Rattle.cfi_modules.specs.Fills.{fill_of, fills_of}
 use Rattle.cfi_aux.specs.Sound.{IsSoundModule}
+use Rattle.cfi_modules.proofs.CellLemmas.{cells_lie}
 use Rattle.cfi_modules.proofs.PrefixLemmas.{data_lies}
 use Rattle.cfi_tables.specs.Key.{Key}
 use Rattle.cfi_tables.specs.Views.{noted}
@@ -30,7 +33,7 @@ use Rattle.cfi_unit.specs.declared.log.Log.{Log}
 use Rattle.cfi_unit.specs.declared.log.Log.TheVariants.{Open, Cause}
 use Rattle.cfi_valid.specs.Course.{Course}
 use Rattle.cfi_valid.specs.Growth.{Continues, FitsEntry, IsLater}
-use Rattle.cfi_valid.specs.Loaded.{fills_between, placed_modules}
+use Rattle.cfi_valid.specs.Loaded.{LoadedModule, Filled, cells_at, data_between, fills_between, loaded_by, placed_modules}
 use Rattle.cfi_valid.specs.Log.{IsLogged}
 use Rattle.cfi_valid.specs.Replay.{given_by}
 use Rattle.cfi_valid.proofs.EntryGrowth.{log_grows}
@@ -46,19 +49,42 @@ use Rattle.cfi_guest_run.proofs.NoteLemmas.{told_fits, told_policy, told_settled
 use Rattle.cfi_guest_run.proofs.SeesLemmas.{on_noted}
 use Rattle.cfi_guest_run.proofs.ServeLemmas.{runner_served}
 
--- what a ledger's modules bring lies in private data
+-- ---- what a ledger's modules bring lies in private data
+
+abbrev Lies : LoadedModule → Type 0
+Lies l = LiesInData (fill_of l.placed)
+
+each_lies : (loaded : List LoadedModule) → All LiesInData (fills_of (placed_modules loaded)) → All Lies loaded
+each_lies [] all = All-nil Lies
+each_lies (l ∷ loaded) all =
+    let rest = fills_of (placed_modules loaded) in
+    All-cons Lies l loaded (All-head LiesInData (fill_of l.placed) rest all)
+    (each_lies loaded (All-tail LiesInData (fill_of l.placed) rest all))
+
+passed_lie : (passes : LoadedModule → Bool) (loaded : List LoadedModule) → All Lies loaded
+    → All LiesInData (fills_of (placed_modules (filter passes loaded)))
+passed_lie passes loaded all =
+    All-map LiesInData fill_of (placed_modules (filter passes loaded))
+    (All-map (λ (m : Placed). LiesInData (fill_of m)) (λ (l : LoadedModule). l.placed) (filter passes loaded)
+    (All-filter passes Lies loaded all))
+
 module _ (k : Key) (plan : Plan) (modules : List Module) (l : Ledger) (is : IsLedger k plan modules l) where
   pub policy_fits : l.course.end.policy ≤ MAX_POLICY
   policy_fits = omega (arith, is.policies.count, is.policies.most)
 
-  pub fills_lie : (given : ℕ) → All LiesInData (fills_between given l.course.end.policy l.course.end.loaded)
+  pub fills_lie : (given : ℕ) → All LiesInData (fills_between Filled given l.course.end.policy l.course.end.loaded)
   fills_lie given =
+      let policy = l.course.end.policy in
+      let loaded = l.course.end.loaded in
+      let found = placed_modules (loaded_by policy loaded) in
       let sound : All IsSoundModule l.course.modules = λ at d within. (is.can_start.taken at d within).sound in
       let series = journal_series l.course.plan l.course.modules l.course.journal l.course.end is.can_start.code_words
       sound is.course in
-      subst (All LiesInData) (sym (later_fills l.course.plan l.course.end is.policies given))
-      (All-drop LiesInData _ (fills_of (placed_modules l.course.end.loaded))
-      (data_lies l.course.plan.code_words (placed_modules l.course.end.loaded) series))
+      let each = each_lies loaded (data_lies l.course.plan.code_words (placed_modules loaded) series) in
+      All-append LiesInData (data_between given policy loaded) (cells_at policy loaded)
+      (passed_lie (λ (m : LoadedModule). nat_lt given m.policy && nat_le m.policy policy) loaded each)
+      (cells_lie (entry_among found) found
+      (passed_lie (λ (m : LoadedModule). nat_le m.policy policy) loaded each))
 
 -- what an answer makes of the log
 pub served_log_is : (r : Raw) (reply : Reply) → r.waits ≡ Some (waits.Service OPEN)

@@ -24,7 +24,7 @@ use Rattle.cfi_unit.specs.declared.log.Log.{Log}
 use Rattle.cfi_unit.specs.declared.log.Log.TheVariants.{Open, Cause}
 use Rattle.cfi_unit.specs.declared.log.Stop.TheVariants as stops
 use Rattle.cfi_valid.specs.Course.{Course}
-use Rattle.cfi_valid.specs.Loaded.{start_fills}
+use Rattle.cfi_valid.specs.Loaded.{Filled, start_fills}
 use Rattle.cfi_valid.specs.Log.{IsLogged}
 use Rattle.cfi_guest_part.specs.Ran.{IsOpenedAs}
 use Rattle.cfi_guest_run.specs.Answered.{AreAnswered, IsSlipOf}
@@ -66,7 +66,7 @@ module _ (k : Key) (plan : Plan) (modules : List Module) (guest : ℕ) (start : 
   can : CanRunOn k plan.fuel p start
   can =
       subst (CanRunOn k plan.fuel p) (sym opened.is)
-      (opened_can k p plan.fuel guest opened.address (start_fills l.course.end.loaded) sight
+      (opened_can k p plan.fuel guest opened.address (start_fills Filled l.course.end.loaded) sight
       (subst (λ (r : Raw). IsStart (history_seen k p.sight) r.base.pc) opened.is starts))
 
   log_is : start.base.log ≡ []

@@ -18,7 +18,6 @@ use Rattle.cfi_runner.specs.Laws.{MayServe}
 use Rattle.cfi_runner.specs.Seen.{SeesMore, history_seen, code_seen, policy_seen}
 use Rattle.cfi_runner.proofs.HandLemmas.{hands_on}
 use Rattle.cfi_runner.proofs.SeenLemmas.{sees_trans}
-use Rattle.cfi_modules.specs.Fills.{fills_of}
 use Rattle.cfi_loader.specs.Ledger.{Ledger}
 use Rattle.cfi_tables.specs.Key.{Key}
 use Rattle.cfi_tables.specs.declared.view.PassView.{PassView}
@@ -28,9 +27,9 @@ use Rattle.cfi_unit.specs.declared.log.Log.TheVariants.{Pick, Open, Cause}
 use Rattle.cfi_unit.specs.declared.log.Stop.TheVariants as stops
 use Rattle.cfi_valid.specs.Growth.{IsLater}
 use Rattle.cfi_valid.specs.Journal.{JournalState}
-use Rattle.cfi_valid.specs.Loaded.{LoadedModule, placed_modules}
+use Rattle.cfi_valid.specs.Loaded.{Filled}
 use Rattle.cfi_valid.proofs.GuestLemmas.{guest_begins_later}
-use Rattle.cfi_valid.proofs.GrowthLemmas.{loaded_stays}
+use Rattle.cfi_valid.proofs.GrowthLemmas.{loaded_stays, start_fills_stay}
 use Rattle.cfi_model.specs.Raw.{raw_opened}
 use Rattle.cfi_guest_part.specs.Ran.{IsOpenedAs}
 use Rattle.cfi_guest_run.specs.Path.{AreDue, IsDueWith, IsPath}
@@ -53,7 +52,7 @@ opened_later plan old new later number start opened =
       address = opened.address;
       begins = guest_begins_later plan old.loaded new.loaded same opened.entry opened.address opened.begins;
       is = opened.is
-          ∙ ap (λ (ls : List LoadedModule). raw_opened number opened.address (fills_of (placed_modules ls))) (sym same);
+          ∙ ap (raw_opened number opened.address) (sym (start_fills_stay old new later Filled));
     }
 
 -- ---- the policies of a log

@@ -13,13 +13,14 @@ use Rattle.cfi_tables.specs.declared.view.PassView.{PassView}
 use Rattle.cfi_tables.specs.declared.view.Sight.{Sight}
 use Rattle.cfi_valid.specs.Course.{Course}
 use Rattle.cfi_valid.specs.Journal.{JournalState}
-use Rattle.cfi_valid.specs.Loaded.{fills_between}
+use Rattle.cfi_valid.specs.Loaded.{fills_between, Filled}
 use Rattle.cfi_valid.specs.Replay.{given_by}
 
--- the answer to an open that succeeds brings the data of all modules up to its policy that the guest lacks
+-- the answer to an open that succeeds brings the data of all modules up to its policy that the guest lacks, and
+-- the cells at that policy
 pub record IsDue (end : JournalState) (r : Raw) (reply : Reply) : Type 0 where
   pub most : reply.policy ≤ end.policy
-  pub fills : reply.fills ≡ fills_between (given_by r.base.log) reply.policy end.loaded
+  pub fills : reply.fills ≡ fills_between Filled (given_by r.base.log) reply.policy end.loaded
 
 -- a service that answered with cause 0 was due, as the state at the end has it; of a word nothing is asked
 abbrev pub IsDueWith : JournalState → Raw → Take → Type 0

@@ -19,7 +19,7 @@ use Rattle.cfi_guest_part.specs.Ran.{IsHistoryOf, IsRunOf}
 use Rattle.cfi_report.specs.declared.report.GuestPart.{GuestPart}
 use Rattle.cfi_valid.specs.Course.{Course}
 use Rattle.cfi_valid.specs.FromLaw.{HasPolicies}
-use Rattle.cfi_valid.specs.Loaded.{LoadedModule, start_fills}
+use Rattle.cfi_valid.specs.Loaded.{LoadedModule, start_fills, Filled}
 use Rattle.cfi_top.specs.Headline.{KeepPolicies, KeepsHeadline}
 use Rattle.cfi_top.proofs.EdgeLemmas.{keeps_policy}
 
@@ -58,7 +58,7 @@ pub run_keeps : (c : Course) (t : Tables) (h : History) (code : List ℕ) → Is
 run_keeps c t h code of number part ran =
     let run = ran.run in
     let opening = run.opened in
-    let fills = start_fills c.end.loaded in
+    let fills = start_fills Filled c.end.loaded in
     let start = raw_opened number opening.address fills in
     let policies = subst (λ n. HasPolicies n c.end.loaded h) (sym of.is_code.len) of.policies in
     let starts : IsStart h opening.address = subst (λ r. IsStart h r.base.pc) opening.is run.starts in
@@ -74,12 +74,12 @@ pub run_policies : (c : Course) (t : Tables) (h : History) (code : List ℕ) →
 run_policies c t h code of number part ran =
     let run = ran.run in
     let opening = run.opened in
-    let start = raw_opened number opening.address (start_fills c.end.loaded) in
+    let start = raw_opened number opening.address (start_fills Filled c.end.loaded) in
     let policies = subst (λ n. HasPolicies n c.end.loaded h) (sym of.is_code.len) of.policies in
     let starts : IsStart h opening.address = subst (λ r. IsStart h r.base.pc) opening.is run.starts in
     let ready : IsReady h run.start.base =
     subst (λ r. IsReady h r.base) (sym opening.is)
-    (opened_ready h number opening.address (start_fills c.end.loaded) starts).0 in
+    (opened_ready h number opening.address (start_fills Filled c.end.loaded) starts).0 in
     keep_policies h code c.end.loaded of.known policies (ends_along run.start (takes_in run.came)) run.start.base
     ran.state ready
     ran.shown.runs
@@ -92,6 +92,7 @@ run_in_force c t h code of number part ran =
     let opening = run.opened in
     let starts : IsStart h opening.address = subst (λ r. IsStart h r.base.pc) opening.is run.starts in
     subst (λ r. HasRunInForce h code t r run.came) (sym opening.is)
-    (in_force_run t of.tables h code of.known of.of_tables number opening.address (start_fills c.end.loaded) starts run.came
+    (in_force_run t of.tables h code of.known of.of_tables number opening.address (start_fills Filled c.end.loaded)
+    starts run.came
     (subst (λ r. Along h code r (takes_in run.came)) opening.is run.along)
     (subst (λ r. AreAskedBy t.code_words r run.came) opening.is run.asked) run.timed)

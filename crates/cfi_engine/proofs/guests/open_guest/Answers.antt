@@ -14,13 +14,14 @@ use Rattle.cfi_tables.specs.declared.view.PassView.{PassView}
 use Rattle.cfi_valid.specs.Guests.{GuestBegins}
 use Rattle.cfi_engine.specs.Guests.{IsOpenedTo}
 use Rattle.cfi_engine.proofs.SeatLemmas.{few_out, next_free, next_opened}
-use Rattle.cfi_engine.proofs.StartLemmas.{fills_lie, opening}
+use Rattle.cfi_engine.proofs.StartLemmas.{given_lies, opening}
 use Rattle.cfi_engine.proofs.guests.open_guest.Goals as goal
 
 pub open-requires : goal.open-requires
 open-requires g c =
     subst (All LiesInData) (sym c.fills.ensures)
-    (fills_lie g.N.TableName.key g.N.LoaderName.plan g.N.LoaderName.modules c.args.loader.now c.plan.ensures.law)
+    (given_lies g.N.TableName.key g.N.LoaderName.plan g.N.LoaderName.modules c.args.loader.now c.plan.ensures.law
+    c.requires.opened.opens)
 
 pub admit-requires : goal.admit-requires
 admit-requires g c =
