@@ -40,7 +40,7 @@ use Rattle.cfi_unit.specs.declared.log.Log.{Log}
 use Rattle.cfi_unit.specs.declared.log.Stop.TheVariants as stops
 use Rattle.cfi_valid.specs.Course.{Course}
 use Rattle.cfi_valid.specs.Journal.{JournalState, EntriesLead}
-use Rattle.cfi_valid.specs.Loaded.{LoadedModule, placed_modules, loaded_by, start_fills}
+use Rattle.cfi_valid.specs.Loaded.{LoadedModule, placed_modules, loaded_by, start_fills, Left}
 use Rattle.cfi_valid.specs.Parts.{ComesTo}
 use Rattle.cfi_valid.specs.Replay.{Replays}
 use Rattle.cfi_valid.specs.Steps.{HasSteps}
@@ -112,8 +112,8 @@ module _ (plan : Plan) (modules : List Module) (journal : List Entry) (end : Sta
 
   unspent : s.stop ≢ Some stops.Fuel
   unspent =
-      replay_unspent code end.state.loaded s.log s.units
-      (opened number run.address (start_fills end.state.loaded)) s run.replayed refl
+      replay_unspent Left code end.state.loaded s.log s.units
+      (opened number run.address (start_fills Left end.state.loaded)) s run.replayed refl
 
   -- where it runs, or where the fuel has stopped it
   pub record HasEnd : Type 0 where
@@ -144,18 +144,18 @@ module _ (plan : Plan) (modules : List Module) (journal : List Entry) (end : Sta
       steps_of (history_of t) code known run.retries s ended.runs.rests.ready run.picked single unspent plan.fuel number
       run.entry r shown within
 
-  abbrev comes : ComesTo c part s
+  abbrev comes : ComesTo Left c part s
   comes = record {
     address = run.address;
     begins = run.begins;
     code = code;
     is_code = is_code;
     replay = subst
-        (λ (log : List Log). Replays code end.state.loaded log r.base.units
-        (opened number run.address (start_fills end.state.loaded)) s) (sym shown.log)
+        (λ (log : List Log). Replays Left code end.state.loaded log r.base.units
+        (opened number run.address (start_fills Left end.state.loaded)) s) (sym shown.log)
         (subst
-        (λ (n : ℕ). Replays code end.state.loaded s.log n
-        (opened number run.address (start_fills end.state.loaded)) s) (sym shown.units) run.replayed);
+        (λ (n : ℕ). Replays Left code end.state.loaded s.log n
+        (opened number run.address (start_fills Left end.state.loaded)) s) (sym shown.units) run.replayed);
   }
 
   pub simulated : IsSimulated c end.world number part

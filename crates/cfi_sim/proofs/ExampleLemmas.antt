@@ -19,7 +19,7 @@ use Rattle.cfi_sim.specs.declared.limits.TheConstants.{MAX_UPDATES}
 use Rattle.cfi_plan.specs.Bare.{bare_plan}
 use Rattle.cfi_valid.specs.Course.{Course}
 use Rattle.cfi_valid.specs.Example.{hello_module}
-use Rattle.cfi_valid.specs.Loaded.{start_fills}
+use Rattle.cfi_valid.specs.Loaded.{start_fills, Left}
 use Rattle.cfi_valid.specs.Parts.{ComesTo, FitsSteps}
 use Rattle.cfi_valid.specs.Valid.{course_of}
 use Rattle.cfi_valid.proofs.example.ExampleCode.{length-copies, stands}
@@ -70,7 +70,7 @@ is_image = record { labels = labels; code = is_code }
 -- ---- the stage
 
 abbrev guest : Raw
-guest = raw_opened 0 (4 * FIRST_BASE) (start_fills (one ∷ []))
+guest = raw_opened 0 (4 * FIRST_BASE) (start_fills Left (one ∷ []))
 
 abbrev world : World
 world = opened_world MAX_CODE_WORDS MAX_VERSIONS 0 image (guest ∷ []) MAX_UPDATES FUEL
@@ -110,10 +110,10 @@ starts = record {
 abbrev course : Course
 course = course_of bare_plan (hello_module ∷ []) still.report end
 
-comes : ComesTo course still_part s0
+comes : ComesTo Left course still_part s0
 comes = record { address = 4 * FIRST_BASE; begins = refl; code = code; is_code = is_code; replay = refl }
 
-steps : FitsSteps course still_part
+steps : FitsSteps Left course still_part
 unfolding comes
 steps = record {
   last = s0;

@@ -67,8 +67,9 @@ module _ (a : Inside) (kept : RosterFits a) (x : Whole) (is : whole_inside a ≡
     joined = record {
       one = offer.placed;
       joins = joins_here;
-      is = same
-          ∙ ap (λ (l : ModuleLine). with_offer (record { line = l; placed = offer.placed }) a.force.roster) its.line_is;
+      is = ap (λ (q : Roster). record q { cells = r.cells })
+          (same
+          ∙ ap (λ (l : ModuleLine). with_offer (record { line = l; placed = offer.placed }) a.force.roster) its.line_is);
     }
 
     loaded_with : loaded_of r.lines r.placed ≡ loaded_of a.force.roster.lines a.force.roster.placed ++ entered ∷ []

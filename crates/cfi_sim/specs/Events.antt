@@ -23,7 +23,7 @@ use Rattle.cfi_sim.specs.declared.found.Found.TheVariants.{Unknown, Functionless
 use Rattle.cfi_sim.specs.declared.limits.TheConstants.{NOT_LOADED}
 use Rattle.cfi_valid.specs.Joining.{HasNoFault}
 use Rattle.cfi_valid.specs.Journal.{JournalState, LineLeads}
-use Rattle.cfi_valid.specs.Loaded.{LoadedModule, placed_modules, fills_between}
+use Rattle.cfi_valid.specs.Loaded.{LoadedModule, placed_modules, fills_between, Left}
 use Rattle.cfi_valid.specs.Log.{HasFunctionAt, HasNoFunction}
 use Rattle.cfi_valid.specs.Replay.{given_by}
 use Rattle.cfi_unit.specs.declared.fill.Fill.{Fill}
@@ -62,10 +62,10 @@ found_reply Functionless policy fills = given_reply None policy fills
 found_reply (Opened address) policy fills = given_reply (Some address) policy fills
 found_reply Unloaded policy fills = reply_of 0 NOT_LOADED policy []
 
--- the data is that which came with policies above the one up to which the guest has data
+-- the data is that which came with policies above the one up to which the guest has data; no cell is filled
 abbrev pub reply_by : JournalState → State → Found → Reply
 reply_by state s found =
-    found_reply found state.policy (fills_between (given_by s.log) state.policy state.loaded)
+    found_reply found state.policy (fills_between Left (given_by s.log) state.policy state.loaded)
 
 -- an open that is to be answered is so in the event in which its guest parks
 pub record IsAnswered (plan : Plan) (state : JournalState) (old new : World) (guest number : ℕ) : Type 0 where

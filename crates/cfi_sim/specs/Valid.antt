@@ -19,7 +19,7 @@ use Rattle.cfi_sim.specs.Stage.{Stage}
 use Rattle.cfi_valid.specs.Course.{Course, IsCourse}
 use Rattle.cfi_valid.specs.Guests.{GuestBegins}
 use Rattle.cfi_valid.specs.Journal.{JournalState, IsOpeningState}
-use Rattle.cfi_valid.specs.Loaded.{placed_modules, start_fills, module_line_of}
+use Rattle.cfi_valid.specs.Loaded.{placed_modules, start_fills, Left, module_line_of}
 use Rattle.cfi_valid.specs.Log.{HoldsInSpan, HasNoFunction, Why, NoModule, NoFunction, Unlogged, why_of, FitsCauses}
 use Rattle.cfi_valid.specs.Parts.{HasReplay, FitsSteps}
 use Rattle.cfi_valid.specs.Valid.{course_of}
@@ -28,13 +28,13 @@ use Rattle.cfi_unit.specs.declared.log.Log.{Log}
 
 -- ---- the opening
 
--- the guest of this number at its entry, with the data of the start modules
+-- the guest of this number at its entry, with the data of the start modules; no cell is filled
 pub record IsGuestAt (plan : Plan) (state : JournalState) (number : ℕ) (r : Raw) : Type 0 where
   pub entry : List ℕ
   pub named : slice_get plan.guests number ≡ Some entry
   pub address : ℕ
   pub begins : GuestBegins plan state.loaded entry address
-  pub is : r ≡ raw_opened number address (start_fills state.loaded)
+  pub is : r ≡ raw_opened number address (start_fills Left state.loaded)
 
 -- the stage before the first line; which numbers the image's classes have is told, so that it is one
 pub record IsStart (plan : Plan) (modules : List Module) (s : Stage) : Type 0 where
@@ -64,15 +64,15 @@ abbrev pub IsSimLogged : Course → List Log → Type 0
 IsSimLogged c log = FitsCauses c (λ at asked cause. IsSimCause c log at asked cause (why_of cause)) log
 
 -- the part of a guest: what the world has of it, and what a part of a run's report has to say, but that the guest may
--- not have stopped; no try was repeated where no update was made and none is under way
+-- not have stopped, and that no cell is filled; no try was repeated where no update was made and none is under way
 pub record IsSimulated (c : Course) (end : World) (number : ℕ) (part : GuestPart) : Type 0 where
   pub r : Raw
   pub there : slice_get end.guests number ≡ Some r
   pub entry : slice_get c.plan.guests number ≡ Some part.entry
   pub told : part ≡ part_of number part.entry r
   pub logged : IsSimLogged c part.log
-  pub replay : HasReplay c part
-  pub steps : FitsSteps c part
+  pub replay : HasReplay Left c part
+  pub steps : FitsSteps Left c part
   pub single : c.end.epoch ≡ c.plan.first → IsIdle end → steps.counts.repeats ≡ 0
 
 -- ---- a simulation

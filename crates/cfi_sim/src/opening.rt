@@ -67,7 +67,7 @@ pub(crate) fn open<'a>(
     };
     loaded_have_entries();
     series_are_closed_below();
-    let guests = open_guests(alloc, plan, roster.modules(), roster.fills())?;
+    let guests = open_guests(alloc, plan, roster.modules(), roster.data())?;
     let world = World::open(
         alloc,
         layout,

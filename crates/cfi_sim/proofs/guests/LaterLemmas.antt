@@ -1,8 +1,7 @@
--- A replay stays one where code and modules grow: the policies of its log find loaded what they found.
-use Rattle.std.proofs.Common.{◌≡◌, ℕ, zero, suc, ◌≤◌, ◌<◌, ◌&&◌, ◌++◌, Bool, true, false, cond, List, [], ◌∷◌, length, replicate, Option, Some, None, refl, sym, ap, subst, ◌∙◌, arith}
-use Rattle.std.specs.Prelude.{◌↔◌, nat_le, nat_lt, filter, ⊤}
+-- A replay of a simulation stays one where code and modules grow: the policies of its log find loaded what they found.
+use Rattle.std.proofs.Common.{◌≡◌, ℕ, zero, suc, ◌≤◌, ◌++◌, Bool, true, false, List, [], ◌∷◌, length, replicate, Option, Some, None, refl, sym, ap, subst, ◌∙◌, arith}
+use Rattle.std.specs.Prelude.{◌↔◌, ⊤}
 use Rattle.std.specs.List.{AllByRecursion, slice_get, fold}
-use Rattle.std.proofs.lemmas.Bool.{lt-leb}
 use Rattle.cfi_unit.specs.declared.log.Log.{Log}
 use Rattle.cfi_unit.specs.declared.log.Log.TheVariants.{Pick, Open, Cause}
 use Rattle.cfi_unit.specs.declared.unit.Unit.{Unit as CodeUnit}
@@ -15,13 +14,12 @@ use Rattle.cfi_model.specs.State.{State, register, displaced}
 use Rattle.cfi_model.proofs.StartLemmas.{begins_on}
 use Rattle.cfi_valid.specs.Growth.{IsLater}
 use Rattle.cfi_valid.specs.Journal.{JournalState}
-use Rattle.cfi_valid.specs.Loaded.{LoadedModule, placed_modules, fills_between}
+use Rattle.cfi_valid.specs.Loaded.{LoadedModule, placed_modules, Left}
 use Rattle.cfi_valid.specs.Log.{NeverFall}
 use Rattle.cfi_valid.specs.Replay.{singles, next_in, given_by, IsReplyOf, TakesPick, TakesAnswer, TakesFrom, IsReplayed, Replays}
-use Rattle.cfi_valid.proofs.GrowthLemmas.{loaded_stays}
+use Rattle.cfi_valid.proofs.GrowthLemmas.{fills_stay, loaded_stays}
 use Rattle.cfi_valid.proofs.SpanLemmas.{fall_least}
 use Rattle.cfi_graph.specs.Direct.{Allowed}
-use Rattle.cfi_modules.specs.Fills.{fills_of}
 
 -- ---- the policies of a log
 
@@ -63,111 +61,71 @@ low_at most (first ∷ log) zero entry all is =
     subst (IsLow most) same all.0
 low_at most (first ∷ log) (suc k) entry all is = low_at most log k entry all.1 is
 
--- ---- what is loaded later
+-- ---- the replay
 
--- modules that come with later policies bring no data that was due before
-none_between : (above upto : ℕ) (more : List LoadedModule)
-    → AllByRecursion (λ (l : LoadedModule). upto < l.policy) more
-    → filter (λ (l : LoadedModule). nat_lt above l.policy && nat_le l.policy upto) more ≡ []
-none_between above upto [] all = refl
-none_between above upto (l ∷ more) all =
-    by_test (nat_lt above l.policy) (nat_le l.policy upto) (lt-leb l.policy upto all.0)
-    (none_between above upto more all.1)
-  where
-    by_test : (a b : Bool) → b ≡ false
-        → filter (λ (m : LoadedModule). nat_lt above m.policy && nat_le m.policy upto) more ≡ []
-        → cond (a && b) (l ∷ filter (λ (m : LoadedModule). nat_lt above m.policy && nat_le m.policy upto) more)
-        (filter (λ (m : LoadedModule). nat_lt above m.policy && nat_le m.policy upto) more) ≡ []
-    by_test true true past rest = absurd (cc)
-    by_test true false past rest = rest
-    by_test false b past rest = rest
+module _ (old new : JournalState) (later : IsLater old new) (code more : List ℕ) (keeps : Keeps code more)
+    (log : List Log) (low : AllByRecursion (IsLow old.policy) log) where
+  next_low : (s : State) (entry : Log) → next_in log s ≡ Some entry → IsLow old.policy entry
+  next_low s entry is =
+      low_at old.policy (singles log) (length (singles s.log)) entry (low_singles old.policy log low) is
 
-between_append : (above upto : ℕ) (loaded more : List LoadedModule)
-    → AllByRecursion (λ (l : LoadedModule). upto < l.policy) more
-    → filter (λ (l : LoadedModule). nat_lt above l.policy && nat_le l.policy upto) (loaded ++ more)
-    ≡ filter (λ (l : LoadedModule). nat_lt above l.policy && nat_le l.policy upto) loaded
-between_append above upto [] more all = none_between above upto more all
-between_append above upto (l ∷ loaded) more all =
-    ap (λ (rest : List LoadedModule). cond (nat_lt above l.policy && nat_le l.policy upto) (l ∷ rest) rest)
-    (between_append above upto loaded more all)
+  picks_stay : (s : State) (slot target pick : ℕ) (allowed inside : Bool)
+      → TakesPick inside old.loaded (next_in log s) slot target pick allowed
+      → TakesPick inside new.loaded (next_in log s) slot target pick allowed
+  picks_stay s slot target pick allowed true picks =
+      record {
+        is = picks.is;
+        exact = subst
+            (λ (ls : List LoadedModule). (allowed ≡ true) ↔ Allowed (placed_modules ls) slot target)
+            (sym (loaded_stays old new later pick (next_low s (Pick pick 1) picks.is))) picks.exact;
+      }
+  picks_stay s slot target pick allowed false picks = tt
 
-above_less : (policy less : ℕ) (more : List LoadedModule) → less ≤ policy
-    → AllByRecursion (λ (l : LoadedModule). policy < l.policy) more
-    → AllByRecursion (λ (l : LoadedModule). less < l.policy) more
-above_less policy less [] within all = tt
-above_less policy less (l ∷ more) within all = (omega (arith, within, all.0), above_less policy less more within all.1)
+  reply_stays : (s : State) (reply : Reply) (next : Option Log) → next_in log s ≡ next
+      → IsReplyOf Left old.loaded s next reply → IsReplyOf Left new.loaded s next reply
+  reply_stays s reply (Some (Open number address policy)) at told =
+      told ∙ ap (reply_of address 0 policy)
+      (sym (fills_stay old new later policy (next_low s (Open number address policy) at) Left (given_by s.log)))
+  reply_stays s reply (Some (Cause number cause)) at told = told
+  reply_stays s reply (Some (Pick policy count)) at told = absurd told
+  reply_stays s reply None at told = absurd told
 
-module _ (old new : JournalState) (later : IsLater old new) where
-  fills_stay : (above upto : ℕ) → upto ≤ old.policy
-      → fills_between above upto new.loaded ≡ fills_between above upto old.loaded
-  fills_stay above upto within =
-      ap (λ (ls : List LoadedModule). fills_between above upto ls) later.is
-      ∙ ap (λ (ls : List LoadedModule). fills_of (placed_modules ls))
-      (between_append above upto old.loaded later.more (above_less old.policy upto later.more within later.above))
+  answers_stay : (s : State) (reply : Reply) (asking : Bool)
+      → TakesAnswer Left asking old.loaded s (next_in log s) reply
+      → TakesAnswer Left asking new.loaded s (next_in log s) reply
+  answers_stay s reply true told = reply_stays s reply (next_in log s) refl told
+  answers_stay s reply false told = told
 
-  module _ (code more : List ℕ) (keeps : Keeps code more) (log : List Log)
-      (low : AllByRecursion (IsLow old.policy) log) where
-    next_low : (s : State) (entry : Log) → next_in log s ≡ Some entry → IsLow old.policy entry
-    next_low s entry is =
-        low_at old.policy (singles log) (length (singles s.log)) entry (low_singles old.policy log low) is
+  takes_stay : (unit : CodeUnit) (s : State) (pick : ℕ) (allowed : Bool) (reply : Reply)
+      → TakesFrom Left old.loaded (next_in log s) unit s pick allowed reply
+      → TakesFrom Left new.loaded (next_in log s) unit s pick allowed reply
+  takes_stay (units.Plain insn) s pick allowed reply takes = tt
+  takes_stay (units.Load kind rd rs1 imm) s pick allowed reply takes = tt
+  takes_stay (units.Store kind rs1 rs2 imm) s pick allowed reply takes = tt
+  takes_stay (units.Branch cond rs1 rs2 off) s pick allowed reply takes = tt
+  takes_stay (units.Jump link off) s pick allowed reply takes = tt
+  takes_stay (units.Check link rs1 imm slot) s pick allowed reply takes =
+      let target = displaced (register s rs1) imm in
+      picks_stay s slot target pick allowed (is_in_code target) takes
+  takes_stay units.Service s pick allowed reply takes = answers_stay s reply (asks s) takes
 
-    picks_stay : (s : State) (slot target pick : ℕ) (allowed inside : Bool)
-        → TakesPick inside old.loaded (next_in log s) slot target pick allowed
-        → TakesPick inside new.loaded (next_in log s) slot target pick allowed
-    picks_stay s slot target pick allowed true picks =
-        record {
-          is = picks.is;
-          exact = subst
-              (λ (ls : List LoadedModule). (allowed ≡ true) ↔ Allowed (placed_modules ls) slot target)
-              (sym (loaded_stays old new later pick (next_low s (Pick pick 1) picks.is))) picks.exact;
-        }
-    picks_stay s slot target pick allowed false picks = tt
+  unit_stays : (one next : State) → IsReplayed Left code old.loaded log one next
+      → IsReplayed Left more new.loaded log one next
+  unit_stays one next p = record {
+    going = p.going;
+    unit = p.unit;
+    stands = record {
+      aligned = p.stands.aligned;
+      begins = begins_on code more _ p.unit p.stands.begins keeps.same keeps.kept;
+    };
+    pick = p.pick;
+    allowed = p.allowed;
+    reply = p.reply;
+    takes = takes_stay p.unit one p.pick p.allowed p.reply p.takes;
+    is = p.is;
+  }
 
-    reply_stays : (s : State) (reply : Reply) (next : Option Log) → next_in log s ≡ next
-        → IsReplyOf old.loaded s next reply → IsReplyOf new.loaded s next reply
-    reply_stays s reply (Some (Open number address policy)) at told =
-        told ∙ ap (reply_of address 0 policy)
-        (sym (fills_stay (given_by s.log) policy (next_low s (Open number address policy) at)))
-    reply_stays s reply (Some (Cause number cause)) at told = told
-    reply_stays s reply (Some (Pick policy count)) at told = absurd told
-    reply_stays s reply None at told = absurd told
-
-    answers_stay : (s : State) (reply : Reply) (asking : Bool)
-        → TakesAnswer asking old.loaded s (next_in log s) reply
-        → TakesAnswer asking new.loaded s (next_in log s) reply
-    answers_stay s reply true told = reply_stays s reply (next_in log s) refl told
-    answers_stay s reply false told = told
-
-    takes_stay : (unit : CodeUnit) (s : State) (pick : ℕ) (allowed : Bool) (reply : Reply)
-        → TakesFrom old.loaded (next_in log s) unit s pick allowed reply
-        → TakesFrom new.loaded (next_in log s) unit s pick allowed reply
-    takes_stay (units.Plain insn) s pick allowed reply takes = tt
-    takes_stay (units.Load kind rd rs1 imm) s pick allowed reply takes = tt
-    takes_stay (units.Store kind rs1 rs2 imm) s pick allowed reply takes = tt
-    takes_stay (units.Branch cond rs1 rs2 off) s pick allowed reply takes = tt
-    takes_stay (units.Jump link off) s pick allowed reply takes = tt
-    takes_stay (units.Check link rs1 imm slot) s pick allowed reply takes =
-        let target = displaced (register s rs1) imm in
-        picks_stay s slot target pick allowed (is_in_code target) takes
-    takes_stay units.Service s pick allowed reply takes = answers_stay s reply (asks s) takes
-
-    unit_stays : (one next : State) → IsReplayed code old.loaded log one next
-        → IsReplayed more new.loaded log one next
-    unit_stays one next p = record {
-      going = p.going;
-      unit = p.unit;
-      stands = record {
-        aligned = p.stands.aligned;
-        begins = begins_on code more _ p.unit p.stands.begins keeps.same keeps.kept;
-      };
-      pick = p.pick;
-      allowed = p.allowed;
-      reply = p.reply;
-      takes = takes_stay p.unit one p.pick p.allowed p.reply p.takes;
-      is = p.is;
-    }
-
-    pub replay_stays : (count : ℕ) (start end : State) → Replays code old.loaded log count start end
-        → Replays more new.loaded log count start end
-    replay_stays zero start end p = p
-    replay_stays (suc count) start end p = (p.0, replay_stays count start p.0 p.1, unit_stays p.0 end p.2)
+  pub replay_stays : (count : ℕ) (start end : State) → Replays Left code old.loaded log count start end
+      → Replays Left more new.loaded log count start end
+  replay_stays zero start end p = p
+  replay_stays (suc count) start end p = (p.0, replay_stays count start p.0 p.1, unit_stays p.0 end p.2)

@@ -19,7 +19,7 @@ use Rattle.cfi_sim.specs.Valid.{IsStart}
 use Rattle.cfi_sim.proofs.guests.TurnLemmas.{AllRun}
 use Rattle.cfi_sim.proofs.guests.RunsLemmas.{HasRun, same_later}
 use Rattle.cfi_sim.proofs.journal.StartLemmas.{world, guest_start, none_later}
-use Rattle.cfi_valid.specs.Loaded.{start_fills}
+use Rattle.cfi_valid.specs.Loaded.{start_fills, Left}
 
 module _ (plan : Plan) (modules : List Module) (is : IsPlan plan) (sound : All IsSoundModule modules) (s : Stage)
     (starts : IsStart plan modules s) where
@@ -44,16 +44,17 @@ module _ (plan : Plan) (modules : List Module) (is : IsPlan plan) (sound : All I
         known = record { least = omega arith; most = omega (arith, none_later plan modules is sound s starts) };
         starts = subst (λ (n : ℕ). IsStartIn (entry_at t n).image at.address) (back_is plan.first) start;
       } in
-      let runs = opened_runs (history_of t) (code_in_force t) number at.address (start_fills s.state.loaded) begins in
+      let runs =
+      opened_runs (history_of t) (code_in_force t) number at.address (start_fills Left s.state.loaded) begins in
       record {
         entry = at.entry;
         named = at.named;
         address = at.address;
         begins = at.begins;
         retries = 0;
-        shown = opened number at.address (start_fills s.state.loaded);
+        shown = opened number at.address (start_fills Left s.state.loaded);
         runs = inl (subst
-            (IsRunning (history_of t) (code_in_force t) 0 (opened number at.address (start_fills s.state.loaded)))
+            (IsRunning (history_of t) (code_in_force t) 0 (opened number at.address (start_fills Left s.state.loaded)))
             (sym at.is) runs);
         replayed = refl;
         picked = λ none. refl;

@@ -13,7 +13,7 @@ use Rattle.cfi_model.specs.Raw.{Raw}
 use Rattle.cfi_sim.proofs.guests.RunsLemmas.{HasRun}
 use Rattle.cfi_valid.specs.Replay.{given_by}
 use Rattle.cfi_valid.specs.Journal.{JournalState}
-use Rattle.cfi_valid.specs.Loaded.{placed_modules, loaded_by, live_at, start_fills, fills_between}
+use Rattle.cfi_valid.specs.Loaded.{placed_modules, loaded_by, live_at, start_fills, fills_between, Left}
 use Rattle.cfi_valid.proofs.LawLemmas.{step_unit}
 use Rattle.cfi_model.proofs.InForceLemmas.{history_is, force_within, epoch_within}
 use Rattle.cfi_model.specs.InForce.{in_force, history_of, code_in_force}
@@ -81,42 +81,42 @@ module _ (plan : Plan) (modules : List Module) (state : JournalState) (aim : Opt
     ready = (going_runs h code run.retries s r run.runs going).rests.ready
 
     -- an answer that succeeds brings what is due
-    due_by : (reply : Option Reply) → p.end.reply ≡ reply → BringsDue state.loaded s reply
+    due_by : (reply : Option Reply) → p.end.reply ≡ reply → BringsDue Left state.loaded s reply
     due_by None came = tt
     due_by (Some reply) came = by_given given fits (p.brings reply came)
       where
         opens_due : (found : Found) → (reply_by state s found).cause ≡ 0
             → (reply_by state s found).fills
-            ≡ fills_between (given_by s.log) (reply_by state s found).policy state.loaded
+            ≡ fills_between Left (given_by s.log) (reply_by state s found).policy state.loaded
         opens_due NoModuleFound free = absurd (omega (arith, free))
         opens_due Functionless free = absurd (omega (arith, free))
         opens_due (Opened address) free = refl
         opens_due Unloaded free = absurd (omega (arith, free))
 
         by_given : (g : Option Reply) → FitsGiven plan state mid s g → IsBrought g reply → reply.cause ≡ 0
-            → reply.fills ≡ fills_between (given_by s.log) reply.policy state.loaded
+            → reply.fills ≡ fills_between Left (given_by s.log) reply.policy state.loaded
         by_given None none brought free = absurd (omega (arith, free, brought))
         by_given (Some answer) given_is brought free =
             let same : reply ≡ reply_by state s given_is.found = brought ∙ given_is.is in
-            subst (λ (x : Reply). x.fills ≡ fills_between (given_by s.log) x.policy state.loaded) (sym same)
+            subst (λ (x : Reply). x.fills ≡ fills_between Left (given_by s.log) x.policy state.loaded) (sym same)
             (opens_due given_is.found (sym (ap (λ (x : Reply). x.cause) same) ∙ free))
 
-    runs_unit : RunsUnit code state.loaded s after
+    runs_unit : RunsUnit Left code state.loaded s after
     runs_unit =
-        step_unit h code state.loaded p.end s after known policies ready p.step (due_by p.end.reply refl)
+        step_unit Left h code state.loaded p.end s after known policies ready p.step (due_by p.end.reply refl)
 
     counts : after.units ≡ s.units + 1
     counts =
         ap (λ (x : State). x.units) p.step.is
         ∙ effect_units unit (h.policy p.step.epoch) (allows_at h p.step.epoch) p.step.reply s
 
-    replayed : HasReplayed code state.loaded after.units (opened number run.address (start_fills state.loaded)) after
+    abbrev start : State
+    start = opened number run.address (start_fills Left state.loaded)
+
+    replayed : HasReplayed Left code state.loaded after.units start after
     replayed =
-        subst
-        (λ (n : ℕ). HasReplayed code state.loaded n (opened number run.address (start_fills state.loaded)) after)
-        (sym counts)
-        (replay_goes_on code state.loaded s.units (opened number run.address (start_fills state.loaded)) s after
-        run.replayed runs_unit)
+        subst (λ (n : ℕ). HasReplayed Left code state.loaded n start after) (sym counts)
+        (replay_goes_on Left code state.loaded s.units start s after run.replayed runs_unit)
 
     no_retry : pick_entries after.log ≡ 0 → more ≡ 0
     no_retry none = elim (cases_eq more run.retries) [

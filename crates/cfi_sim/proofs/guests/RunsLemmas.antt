@@ -21,12 +21,11 @@ use Rattle.cfi_valid.specs.Growth.{IsLater}
 use Rattle.cfi_valid.specs.Guests.{EntersAt, GuestBegins}
 use Rattle.cfi_valid.specs.Bare.{is_bare_plan}
 use Rattle.cfi_valid.specs.Journal.{JournalState}
-use Rattle.cfi_valid.specs.Loaded.{LoadedModule, placed_modules, loaded_by, start_fills}
+use Rattle.cfi_valid.specs.Loaded.{LoadedModule, placed_modules, loaded_by, start_fills, Left}
 use Rattle.cfi_valid.specs.Replay.{Replays}
 use Rattle.cfi_valid.specs.Running.{HasReplayed}
-use Rattle.cfi_valid.proofs.GrowthLemmas.{loaded_stays}
+use Rattle.cfi_valid.proofs.GrowthLemmas.{loaded_stays, start_fills_stay}
 use Rattle.cfi_modules.specs.Entry.{IsEntryIn}
-use Rattle.cfi_modules.specs.Fills.{fills_of}
 use Rattle.cfi_world.proofs.LaterLemmas.{guest_later}
 
 -- ---- later states
@@ -80,8 +79,8 @@ module _ (plan : Plan) (modules : List Module) where
     pub retries : ℕ
     pub shown : State
     pub runs : IsGuest (history_of t) (code_in_force t) retries shown r
-    pub replayed : HasReplayed (code_in_force t) state.loaded shown.units
-        (opened number address (start_fills state.loaded)) shown
+    pub replayed : HasReplayed Left (code_in_force t) state.loaded shown.units
+        (opened number address (start_fills Left state.loaded)) shown
     pub picked : pick_entries shown.log ≡ 0 → retries ≡ 0
     pub single : length t.entries ≡ 1 → retries ≡ 0
     pub settled : JournalState
@@ -104,8 +103,6 @@ module _ (plan : Plan) (modules : List Module) where
 
     pub runs_on : (number : ℕ) (r : Raw) → HasRun old t number r → HasRun new u number r
     runs_on number r run =
-        let fills : start_fills new.loaded ≡ start_fills old.loaded =
-        ap (λ (ls : List LoadedModule). fills_of (placed_modules ls)) starts_same in
         let low : AllByRecursion (IsLow old.policy) run.shown.log =
         low_all old.policy 0 run.shown.log run.logged.rises (omega (arith, run.logged.most, run.later.policy)) in
         record {
@@ -117,10 +114,10 @@ module _ (plan : Plan) (modules : List Module) where
           shown = run.shown;
           runs = guest_later t u is then on run.retries run.shown r run.runs;
           replayed = subst
-              (λ (fs : List Fill). Replays (code_in_force u) new.loaded run.shown.log run.shown.units
-              (opened number run.address fs) run.shown) (sym fills)
+              (λ (fs : List Fill). Replays Left (code_in_force u) new.loaded run.shown.log run.shown.units
+              (opened number run.address fs) run.shown) (sym (start_fills_stay old new after Left))
               (replay_stays old new after (code_in_force t) (code_in_force u) (keeps t u is then on) run.shown.log low
-              run.shown.units (opened number run.address (start_fills old.loaded)) run.shown run.replayed);
+              run.shown.units (opened number run.address (start_fills Left old.loaded)) run.shown run.replayed);
           picked = run.picked;
           single = λ one. run.single (omega (arith, one, on.longer, is.some));
           settled = run.settled;

@@ -6,7 +6,7 @@ use Rattle.cfi_world.specs.declared.event.Turned.TheVariants.{Did, Asks}
 use Rattle.cfi_world.specs.declared.event.Event.TheVariants as events
 use Rattle.cfi_sim.specs.Stage.{Stage}
 use Rattle.cfi_sim.proofs.guests.RunsLemmas.{HasRun}
-use Rattle.cfi_valid.specs.Loaded.{fills_between}
+use Rattle.cfi_valid.specs.Loaded.{fills_between, Left}
 use Rattle.cfi_sim.specs.Agrees.{TablesAgree}
 use Rattle.cfi_unit.specs.declared.log.Stop.{Stop}
 use Rattle.cfi_sim.proofs.guests.OwnLemmas.{stepped}
@@ -57,7 +57,8 @@ pub reply_same : (state : JournalState) (a b : State) (found : Found) → a.log 
     → reply_by state a found ≡ reply_by state b found
 reply_same state a b found same =
     ap
-    (λ (log : List Log). found_reply found state.policy (fills_between (given_by log) state.policy state.loaded)) same
+    (λ (log : List Log). found_reply found state.policy (fills_between Left (given_by log) state.policy state.loaded))
+    same
 
 -- a guest that waits has not stopped
 pub waits_on : (stop : Option Stop) (wait : Option Wait) (w : Wait) → (stop ≢ None → wait ≡ None) → wait ≡ Some w

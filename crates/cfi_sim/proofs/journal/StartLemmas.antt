@@ -37,7 +37,7 @@ use Rattle.cfi_sim.proofs.NumbersLemmas.{starts_apart}
 use Rattle.cfi_sim.proofs.journal.LegalLemmas.{start_stands}
 use Rattle.cfi_sim.proofs.journal.ComingLemmas.{idle_comes, all_loaded, among, policy_of_all}
 use Rattle.cfi_valid.specs.Guests.{EntersAt}
-use Rattle.cfi_valid.specs.Loaded.{LoadedModule, placed_modules, loaded_by, start_fills}
+use Rattle.cfi_valid.specs.Loaded.{LoadedModule, placed_modules, loaded_by, start_fills, Left}
 use Rattle.cfi_valid.proofs.BareLemmas.{not_bare}
 use Rattle.cfi_valid.proofs.SeriesLemmas.{journal_series}
 use Rattle.cfi_word.specs.declared.limits.TheConstants.{GUESTS}
@@ -96,7 +96,7 @@ module _ (plan : Plan) (modules : List Module) (is : IsPlan plan) (sound : All I
   guest_opened : (number : ℕ) (r : Raw) → slice_get starts.guests number ≡ Some r → IsOpened image number r
   guest_opened number r there = record {
     entry = (starts.each number r there).address;
-    fills = start_fills loaded;
+    fills = start_fills Left loaded;
     inside = some_fills _ loaded (data_lies plan.code_words ms series);
     is = (starts.each number r there).is;
     start = guest_start number r there;

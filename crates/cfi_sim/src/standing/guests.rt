@@ -29,7 +29,7 @@ impl<'a> Standing<'a> {
         let first = self
             .force
             .due_from(self.world.guests()[guest as usize].log());
-        let answer = found.answer(self.force.policy, self.force.roster.fills(), first);
+        let answer = found.answer(self.force.policy, self.force.roster.data(), first);
         let _ = self.world.turn(Event::Answer(guest, answer));
     }
 

@@ -15,7 +15,7 @@ open_modules-requires-clause-can c =
 -- the data of modules of a series lies inside private data
 pub open_guests-requires-clause-inside : goal.open_guests-requires-clause-inside
 open_guests-requires-clause-inside c =
-    subst (λ (fs : List Fill). All LiesInData fs) (sym c.fills.ensures)
+    subst (λ (fs : List Fill). All LiesInData fs) (sym c.data.ensures)
     (c.series_are_closed_below.ensures.fills _ _ c.modules.ensures.series)
 
 pub open_guests-requires-clause-enter : goal.open_guests-requires-clause-enter
@@ -27,9 +27,9 @@ open-requires c =
     let plan = c.args.plan.now in
     let size : c.unwrap-layout.result ≡ plan.code_words = search rules in
     can_open plan c.args.modules.now c.requires.plan c.requires.count c.requires.taken c.in-Ok.roster c.in-Ok.image
-    c.in-Ok.ensures.ok c.fills.result.now c.fills.ensures c.in_ok-guests.guests.items
+    c.in-Ok.ensures.ok c.data.result.now c.data.ensures c.in_ok-guests.guests.items
     (subst
-    (λ (ms : List Placed). AreGuestsIn plan ms c.fills.result.now (length plan.guests) c.in_ok-guests.guests.items)
+    (λ (ms : List Placed). AreGuestsIn plan ms c.data.result.now (length plan.guests) c.in_ok-guests.guests.items)
     c.modules.ensures.value c.in_ok-guests.ensures) c.unwrap-layout.result size
 
 -- the stage before the first line
@@ -38,8 +38,8 @@ returns-clause-ok c =
     let plan = c.args.plan.now in
     let size : c.unwrap-layout.result ≡ plan.code_words = search rules in
     opened_is plan c.args.modules.now c.requires.plan c.requires.count c.requires.taken c.in-Ok.roster c.in-Ok.image
-    c.in-Ok.ensures.ok c.fills.result.now c.fills.ensures c.in_ok-guests.guests.items
+    c.in-Ok.ensures.ok c.data.result.now c.data.ensures c.in_ok-guests.guests.items
     (subst
-    (λ (ms : List Placed). AreGuestsIn plan ms c.fills.result.now (length plan.guests) c.in_ok-guests.guests.items)
+    (λ (ms : List Placed). AreGuestsIn plan ms c.data.result.now (length plan.guests) c.in_ok-guests.guests.items)
     c.modules.ensures.value c.in_ok-guests.ensures) c.unwrap-layout.result size c.in_ok-world.world
     c.in_ok-world.ensures c.new-2.result c.new-2.ensures

@@ -4,7 +4,7 @@ use Rattle.std.proofs.lemmas.Option.{slice_get-get_or, slice_get_within}
 use Rattle.cfi_ledger.specs.Force.{starts_in}
 use Rattle.cfi_ledger.specs.Roster.{origin_of}
 use Rattle.cfi_ledger.specs.Policies.{HavePolicies}
-use Rattle.cfi_ledger.proofs.DueLemmas.{fills_due}
+use Rattle.cfi_ledger.proofs.DueLemmas.{data_due}
 use Rattle.cfi_model.specs.Data.{LiesInData}
 use Rattle.cfi_model.specs.Raw.{Raw}
 use Rattle.cfi_model.specs.Words.{policy_in_force}
@@ -49,8 +49,8 @@ turn-requires c =
     let lies = All-drop LiesInData first (fills_of a.force.roster.placed)
     (data_lies size a.force.roster.placed series) in
     subst (MayAnswer a.world) (sym c.answer-answer.ensures)
-    (found_may a.world c.find-found.result a.force.policy (drop first c.fills.result.now) force
-    (subst (λ (fs : List Fill). All LiesInData (drop first fs)) (sym c.fills.ensures) lies))
+    (found_may a.world c.find-found.result a.force.policy (drop first c.data.result.now) force
+    (subst (λ (fs : List Fill). All LiesInData (drop first fs)) (sym c.data.ensures) lies))
 
 -- the answer is the reply to what the open finds
 pub returns : goal.returns
@@ -78,7 +78,7 @@ returns c =
     ) c.self.view_is
     (answers_open x c.args.guest c.args.number r seat found c.find-found.ensures c.answer-answer.result
     (c.answer-answer.ensures
-    ∙ ap (λ (fills : List Fill). found_reply found f.policy (drop c.due_from-first.result fills)) c.fills.ensures
+    ∙ ap (λ (fills : List Fill). found_reply found f.policy (drop c.due_from-first.result fills)) c.data.ensures
     ∙ ap (λ (n : ℕ). found_reply found f.policy (drop n (fills_of f.roster.placed))) first
     ∙ ap (found_reply found f.policy)
-    (sym (fills_due inside.plan.now f have c.self.invariant.roster_is (given_by r.base.log)))) new c.turn.ensures.world)
+    (sym (data_due inside.plan.now f have c.self.invariant.roster_is (given_by r.base.log)))) new c.turn.ensures.world)
