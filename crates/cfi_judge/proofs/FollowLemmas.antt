@@ -6,7 +6,6 @@ use Rattle.cfi_aux.specs.declared.modules.Module.{Module}
 use Rattle.cfi_aux.specs.declared.placed.Placed.{Placed}
 use Rattle.cfi_plan.specs.declared.journal.ModuleLine.{ModuleLine}
 use Rattle.cfi_plan.specs.declared.plan.Plan.{Plan}
-use Rattle.cfi_valid.specs.Kept.{Origin}
 use Rattle.cfi_judge.specs.declared.next.Next.{Next}
 use Rattle.cfi_judge.specs.declared.told.Told.{Told}
 use Rattle.cfi_judge.specs.inner.Next.{IsNext}

@@ -1,5 +1,5 @@
 -- The parts of a report, one after the other.
-use Rattle.std.proofs.Common.{◌≡◌, ◌≢◌, ◌≤◌, ℕ, List, length, subst, arith}
+use Rattle.std.proofs.Common.{◌≢◌, ◌≤◌, ℕ, List, length, arith}
 use Rattle.cfi_aux.specs.declared.modules.Module.{Module}
 use Rattle.cfi_ledger.specs.Opening.{IsStartFault}
 use Rattle.cfi_ledger.specs.Plans.{CanStart}
@@ -12,7 +12,7 @@ use Rattle.cfi_report.specs.declared.report.Report.{Report}
 use Rattle.cfi_valid.specs.Journal.{JournalState}
 use Rattle.cfi_valid.specs.Valid.{HasGuests, HasJournal, HasScript, OfEach, course_of}
 use Rattle.cfi_word.specs.declared.limits.TheConstants.{GUESTS}
-use Rattle.cfi_judge.specs.Judge.{HasItsLog, HoldsToGuests, HoldsToJournal, HoldsToLogs, HoldsToScript, IsJudgeFault, journal_fault}
+use Rattle.cfi_judge.specs.Judge.{HasItsLog, HoldsToGuests, HoldsToJournal, HoldsToLogs, IsJudgeFault, journal_fault}
 use Rattle.cfi_judge.specs.Journal.{IsJournalFault}
 use Rattle.cfi_judge.specs.Modules.{HasSomeModules}
 use Rattle.cfi_judge.specs.declared.fault.JournalFault.{JournalFault}

@@ -19,7 +19,7 @@ use Rattle.cfi_modules.proofs.LengthLemmas.{ok_not_err}
 use Rattle.cfi_modules.proofs.PlacedLemmas.{fits}
 use Rattle.cfi_modules.proofs.SeriesLemmas.{code_after, member, room_at, take_one_more}
 use Rattle.cfi_place.specs.Names.{Names, find_in, first_in}
-use Rattle.cfi_place.specs.Placed.{IsFault, IsRoom, placed_in}
+use Rattle.cfi_place.specs.Placed.{IsFault, placed_in}
 use Rattle.cfi_place.specs.Relocated.{Areas}
 use Rattle.cfi_place.specs.declared.fault.PlaceFault.{PlaceFault}
 use Rattle.cfi_place.specs.declared.fault.PlaceFault.TheVariants as faults

@@ -1,5 +1,5 @@
 -- Whether a module is placed does not hang on its slots: with other slots it is placed at the same place.
-use Rattle.std.proofs.Common.{◌≡◌, ℕ, ◌+◌, List, [], ◌∷◌, length, map, filter, Option, Result, refl, sym, ap, ◌∙◌}
+use Rattle.std.proofs.Common.{◌≡◌, ℕ, ◌+◌, List, [], ◌∷◌, map, filter, Option, Result, refl, sym, ap, ◌∙◌}
 use Rattle.cfi_values.specs.Then.{◌>>=◌}
 use Rattle.elf_read.specs.declared.object.Area.{Area}
 use Rattle.elf_read.specs.declared.object.Area.TheVariants as areas

@@ -1,10 +1,9 @@
 -- Replays, one by one.
-use Rattle.std.proofs.Common.{◌≡◌, ◌≢◌, ℕ, ◌+◌, ◌≤◌, Bool, true, false, List, length, Option, Some, None, Result, Ok, Err, refl, sym, ap, subst, ◌∙◌, arith}
+use Rattle.std.proofs.Common.{◌≡◌, ◌≢◌, ℕ, ◌+◌, ◌≤◌, Bool, false, List, length, Option, Some, None, Result, Ok, Err, subst, arith}
 use Rattle.std.specs.Prelude.{◌↔◌, IfNone, IsTrue}
 use Rattle.std.specs.List.{slice_get}
 use Rattle.cfi_aux.specs.declared.modules.Module.{Module}
 use Rattle.cfi_ledger.specs.Plans.{CanStart}
-use Rattle.cfi_ledger.specs.Roster.{loaded_in_roster}
 use Rattle.cfi_ledger.proofs.PolicyLemmas.{journal_policies}
 use Rattle.cfi_model.specs.State.{State}
 use Rattle.cfi_plan.specs.declared.plan.Plan.{Plan}
@@ -20,14 +19,12 @@ use Rattle.cfi_valid.specs.Parts.{FitsEndedSteps, HasEndedReplay}
 use Rattle.cfi_valid.specs.Valid.{HasJournal, IsValidReport, course_of}
 use Rattle.cfi_word.specs.declared.limits.TheConstants.{MAX_POLICY}
 use Rattle.cfi_judge.specs.Judge.{HasItsReplay, HasItsSteps, HoldsToLogs, HoldsToReplays, IsFirstPart, IsJudgeFault}
-use Rattle.cfi_judge.specs.Reached.{state_of}
 use Rattle.cfi_judge.specs.Steps.{HasRun}
 use Rattle.cfi_judge.specs.declared.fault.JudgeFault.{JudgeFault}
 use Rattle.cfi_judge.specs.declared.fault.JudgeFault.TheVariants as faults
 use Rattle.cfi_judge.specs.declared.runs.Outcome.{Outcome}
 use Rattle.cfi_judge.specs.declared.runs.Outcome.TheVariants.{Other, Same, Steps}
-use Rattle.cfi_judge.specs.declared.trial.Trial.{Trial}
-use Rattle.cfi_judge.specs.inner.Runs.{HasOutcome, IsSetIn, kept_with}
+use Rattle.cfi_judge.specs.inner.Runs.{HasOutcome, kept_with}
 use Rattle.cfi_judge.proofs.FaultLemmas.{all_valid}
 use Rattle.cfi_judge.proofs.PartLemmas.{OfFirst, all_hold, first_part, none_first, one_more}
 use Rattle.cfi_judge.proofs.YesLemmas.{not_answered}

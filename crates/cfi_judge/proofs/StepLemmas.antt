@@ -6,7 +6,7 @@ use Rattle.cfi_model.specs.State.{State}
 use Rattle.cfi_plan.specs.declared.plan.Plan.{Plan}
 use Rattle.cfi_report.specs.declared.report.GuestPart.{GuestPart}
 use Rattle.cfi_valid.specs.Course.{Course}
-use Rattle.cfi_valid.specs.Loaded.{placed_modules}
+use Rattle.cfi_valid.specs.Loaded.{placed_modules, Filled}
 use Rattle.cfi_valid.specs.Parts.{FitsEndedSteps}
 use Rattle.cfi_valid.specs.Steps.{HasBegun}
 use Rattle.cfi_valid.proofs.CodeLemmas.{code_once}
@@ -99,7 +99,7 @@ module _ (plan : Plan) (epoch : ℕ) (code : List ℕ) (last : State) (c : Cours
     steps_to fits =
         let comes = fits.fits.comes in
         let state : fits.fits.last ≡ last =
-        comes_once c part part fits.fits.last last comes run.comes refl refl refl refl in
+        comes_once Filled c part part fits.fits.last last comes run.comes refl refl refl refl in
         let words : comes.code ≡ code =
         code_once (placed_modules c.end.loaded) c.plan.code_words comes.code run.comes.code comes.is_code
         run.comes.is_code ∙ run.code_is in

@@ -4,6 +4,7 @@ use Rattle.cfi_model.specs.State.{State}
 use Rattle.cfi_plan.specs.declared.plan.Plan.{Plan}
 use Rattle.cfi_report.specs.declared.report.GuestPart.{GuestPart}
 use Rattle.cfi_valid.specs.Course.{Course}
+use Rattle.cfi_valid.specs.Loaded.{Filled}
 use Rattle.cfi_valid.specs.Parts.{ComesTo}
 
 -- in the course the units of the part come to this state, over this code
@@ -11,5 +12,5 @@ pub record HasRun (plan : Plan) (epoch : ℕ) (code : List ℕ) (last : State) (
     : Type 0 where
   pub plan_is : c.plan ≡ plan
   pub epoch_is : c.end.epoch ≡ epoch
-  pub comes : ComesTo c part last
+  pub comes : ComesTo Filled c part last
   pub code_is : comes.code ≡ code

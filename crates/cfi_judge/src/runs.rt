@@ -13,7 +13,7 @@ use crate::fault::JudgeFault;
 use crate::steps::has_steps;
 use crate::trial::Trial;
 use cfi_labels::laws::journals_load_in_order;
-use cfi_labels::{policy_labels, run_code};
+use cfi_labels::{policy_cells, policy_labels, run_code};
 use cfi_model::Plain;
 use cfi_replay::{Setting, has_ended, replayed};
 use cfi_report::GuestPart;
@@ -111,7 +111,7 @@ impl Trial<'_> {
     /// Replays the guests of a report whose logs fit. The first whose replay comes to something else, or else the first
     /// whose steps do not fit.
     ///
-    /// The code of all that was loaded and the labels of each policy are made once.
+    /// The code of all that was loaded and the labels and cells of each policy are made once.
     pub(crate) fn replay(&self, alloc: Global) -> Result<(), JudgeFault>
         requires trial { IsTrial self.now }
         requires before { HoldsToLogs self.now.plan.now self.now.modules.now self.now.report.now
@@ -126,12 +126,14 @@ impl Trial<'_> {
         let roster = &self.end.roster;
         let code = run_code(alloc, roster, &layout)?;
         let labels = policy_labels(alloc, roster, &layout, self.end.policy)?;
+        let cells = policy_cells(alloc, roster, self.end.policy)?;
         let setting = Setting {
             plan: self.plan,
             roster,
             force: self.end.policy,
             code: code.as_slice(),
             labels: labels.as_slice(),
+            cells: cells.as_slice(),
         };
         self.replay_in(alloc, &setting)
     }

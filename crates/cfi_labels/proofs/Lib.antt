@@ -1,3 +1,5 @@
 pub mod ClassLemmas
 pub mod LoadedLemmas
 pub mod SetLemmas
+pub mod LabelLemmas
+pub mod CellLemmas

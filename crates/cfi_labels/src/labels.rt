@@ -9,10 +9,11 @@ use cfi_ledger::Roster;
 use cfi_word::{Labels, Layout};
 use std::alloc::{AllocError, Global};
 
-// How many of the modules were there from the start.
-fn start_count(roster: &Roster, last: u32) -> usize
+/// How many of the modules were there from the start.
+pub(crate) fn start_count(roster: &Roster, last: u32) -> usize
     requires { ComeInOrder (loaded_in_roster roster.now) last }
-    ensures { result + last ≡ length roster.now.placed }
+    ensures is { result + last ≡ length roster.now.placed }
+    ensures lined { length roster.now.lines ≡ length roster.now.placed }
 {
     roster.lines().len() - last as usize
 }
@@ -34,7 +35,7 @@ pub fn policy_labels(
 {
     first_have_image();
     let modules = roster.modules();
-    let many = roster.lines().len();
+    let many = modules.len();
     let starts = start_count(roster, last);
     let mut sets = Vec::new(alloc);
     for count in starts..many + 1 {

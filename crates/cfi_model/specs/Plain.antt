@@ -12,6 +12,7 @@ use Rattle.cfi_word.specs.declared.limits.TheConstants.{MAX_OPENS, MAX_POLICY}
 use Rattle.std.specs.List.{All}
 use Rattle.cfi_model.specs.Data.{LiesInData}
 use Rattle.cfi_model.specs.Log.{last_policy, last_picks, opens}
+use Rattle.cfi_model.specs.Pages.{memory_filled}
 use Rattle.cfi_model.specs.State.{State, opened, after}
 use Rattle.cfi_model.specs.Service.{Reply, Opens, served, argument, too_many}
 use Rattle.cfi_model.specs.Effect.{effect, asks, going_to}
@@ -61,6 +62,10 @@ answered reply m = record {
   state = going_to (after 4 m.state.pc) 1 (served Opens reply m.state);
   waits = false;
 }
+
+-- the machine with fills over its private data
+abbrev pub with_fills : List Fill → PlainState → PlainState
+with_fills fills m = record m { state = record m.state { memory = memory_filled m.state.memory fills } }
 
 -- a unit may be run where one begins: the machine runs none, and its log can take the policy
 pub record CanTurn (policy : ℕ) (m : PlainState) : Type 0 where

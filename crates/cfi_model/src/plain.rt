@@ -67,7 +67,7 @@ impl Plain {
     ghost use Rattle.cfi_model.specs.State.{register};
     ghost use Rattle.cfi_model.specs.Service.{reply_of, argument};
     ghost use Rattle.cfi_model.specs.Plain.{PlainState, plain_opened, CanRun, CanTurn, CanEnd, IsTurn};
-    ghost use Rattle.cfi_model.specs.Plain.{has_one_class, unit_of, step_of, answered};
+    ghost use Rattle.cfi_model.specs.Plain.{has_one_class, unit_of, step_of, answered, with_fills};
     ghost use Rattle.cfi_model.specs.Effect.{allows_by};
     ghost use Rattle.cfi_model.specs.Shows.{Stands};
 
@@ -175,6 +175,14 @@ impl Plain {
     {
         self.waits = false;
         self.reply(answer);
+    }
+
+    /// Writes fills, which lie inside private data, over what stands there.
+    pub fn fill(&mut self, fills: &[Fill])
+        requires { All LiesInData fills.now }
+        ensures { self.new ≡ with_fills fills.now self.old }
+    {
+        self.memory.fill(fills);
     }
 
     /// The guest's number.

@@ -9,7 +9,7 @@ use Rattle.cfi_valid.proofs.EntryLemmas.{begins_once}
 use Rattle.cfi_valid.proofs.ValidLemmas.{comes_once}
 use Rattle.cfi_valid.specs.Course.{Course}
 use Rattle.cfi_valid.specs.Guests.{GuestBegins}
-use Rattle.cfi_valid.specs.Loaded.{LoadedModule, placed_modules, start_fills}
+use Rattle.cfi_valid.specs.Loaded.{LoadedModule, placed_modules, start_fills, Filled}
 use Rattle.cfi_valid.specs.Parts.{ComesTo, HasEndedReplay}
 use Rattle.cfi_valid.specs.Replay.{Replays}
 use Rattle.cfi_replay.specs.Setting.{ComesIn, IsCourseIn, IsSetting, loaded_in}
@@ -17,7 +17,7 @@ use Rattle.cfi_replay.specs.declared.setting.Setting.{Setting}
 use Rattle.cfi_replay.specs.inner.Ended.{HasEnd}
 use Rattle.cfi_replay.specs.inner.Follows.{HasReplayed}
 
-module _ (c : Course) (part : GuestPart) (last : State) (comes : ComesTo c part last) where
+module _ (c : Course) (part : GuestPart) (last : State) (comes : ComesTo Filled c part last) where
   pub end_to : part.stop ≢ None → HasEnd last part → HasEndedReplay c part
   end_to stopped has = record {
     stopped = stopped;
@@ -27,14 +27,14 @@ module _ (c : Course) (part : GuestPart) (last : State) (comes : ComesTo c part 
   pub end_from : HasEndedReplay c part → HasEnd last part
   end_from ended =
       let r = ended.replay in
-      let same : r.last ≡ last = comes_once c part part r.last last r.comes comes refl refl refl refl in
+      let same : r.last ≡ last = comes_once Filled c part part r.last last r.comes comes refl refl refl refl in
       let there : HasEnd r.last part = record { output = r.output; log = r.log; stop = r.stop } in
       subst (λ (s : State). HasEnd s part) same there
 
 module _ (s : Setting) (is : IsSetting s) (part : GuestPart) where
   -- where the machine came, the units of the part come in each course
   pub comes_in : (address : ℕ) → GuestBegins s.plan.now (loaded_in s) part.entry address → (last : State)
-      → HasReplayed s part.log part.units (opened part.number address (start_fills (loaded_in s))) last
+      → HasReplayed s part.log part.units (opened part.number address (start_fills Filled (loaded_in s))) last
       → ComesIn s part last
   comes_in address begins last replay = λ c in_it.
       let plan = sym in_it.plan_is in
@@ -48,21 +48,21 @@ module _ (s : Setting) (is : IsSetting s) (part : GuestPart) where
           is_code = subst (λ (p : Plan). IsCodeOf (placed_modules c.end.loaded) p.code_words s.code.now) plan
               (subst (λ (ls : List LoadedModule). IsCodeOf (placed_modules ls) s.plan.now.code_words s.code.now) loaded
               is.code);
-          replay = subst (λ (ls : List LoadedModule). Replays s.code.now ls part.log part.units
-              (opened part.number address (start_fills ls)) last) loaded replay;
+          replay = subst (λ (ls : List LoadedModule). Replays Filled s.code.now ls part.log part.units
+              (opened part.number address (start_fills Filled ls)) last) loaded replay;
         };
         code_is = refl;
       }
 
   -- and where it did not, they come nowhere
-  module _ (c : Course) (in_it : IsCourseIn s c) (last : State) (comes : ComesTo c part last) where
+  module _ (c : Course) (in_it : IsCourseIn s c) (last : State) (comes : ComesTo Filled c part last) where
     pub begins_there : GuestBegins s.plan.now (loaded_in s) part.entry comes.address
     begins_there =
         subst (λ (ls : List LoadedModule). GuestBegins s.plan.now ls part.entry comes.address) in_it.loaded_is
         (subst (λ (p : Plan). GuestBegins p c.end.loaded part.entry comes.address) in_it.plan_is comes.begins)
 
     pub replay_there : (address : ℕ) → GuestBegins s.plan.now (loaded_in s) part.entry address
-        → HasReplayed s part.log part.units (opened part.number address (start_fills (loaded_in s))) last
+        → HasReplayed s part.log part.units (opened part.number address (start_fills Filled (loaded_in s))) last
     replay_there address begins =
         let same : comes.address ≡ address =
         begins_once s.plan.now (loaded_in s) part.entry comes.address address begins_there begins in
@@ -72,8 +72,9 @@ module _ (s : Setting) (is : IsSetting s) (part : GuestPart) where
         comes.is_code) in
         let code : comes.code ≡ s.code.now =
         code_once (placed_modules (loaded_in s)) s.plan.now.code_words comes.code s.code.now code_there is.code in
-        subst (λ (a : ℕ). HasReplayed s part.log part.units (opened part.number a (start_fills (loaded_in s))) last) same
-        (subst (λ (words : List ℕ). Replays words (loaded_in s) part.log part.units
-        (opened part.number comes.address (start_fills (loaded_in s))) last) code
-        (subst (λ (ls : List LoadedModule). Replays comes.code ls part.log part.units
-        (opened part.number comes.address (start_fills ls)) last) in_it.loaded_is comes.replay))
+        subst (λ (a : ℕ). HasReplayed s part.log part.units
+        (opened part.number a (start_fills Filled (loaded_in s))) last) same
+        (subst (λ (words : List ℕ). Replays Filled words (loaded_in s) part.log part.units
+        (opened part.number comes.address (start_fills Filled (loaded_in s))) last) code
+        (subst (λ (ls : List LoadedModule). Replays Filled comes.code ls part.log part.units
+        (opened part.number comes.address (start_fills Filled ls)) last) in_it.loaded_is comes.replay))

@@ -14,6 +14,7 @@ use Rattle.cfi_unit.specs.declared.log.Log.{Log}
 use Rattle.cfi_unit.specs.declared.log.Log.TheVariants.{Pick, Open, Cause}
 use Rattle.cfi_unit.specs.declared.unit.Unit.{Unit as CodeUnit}
 use Rattle.cfi_unit.proofs.CodeLemmas.{BeginsAt-one}
+use Rattle.cfi_valid.specs.Loaded.{Filled}
 use Rattle.cfi_valid.specs.Replay.{IsReplayed, TakesFrom, given_by, next_in, singles}
 use Rattle.cfi_word.specs.declared.lists.Labels.{Labels}
 use Rattle.cfi_labels.specs.Labels.{AreLabelsAt}
@@ -115,9 +116,9 @@ module _ (s : Setting) (log : List Log) (cursor : Cursor) where
         log_is =
             ap (λ (t : State). t.log) state_is ∙ effect_log turn.unit policy (has_one_class labels) old.state
 
-        replayed : TakesFrom (loaded_in s) (next_in log old.state) turn.unit old.state policy
+        replayed : TakesFrom Filled (loaded_in s) (next_in log old.state) turn.unit old.state policy
             (lets labels turn.unit old.state) too_many
-            → IsReplayed s.code.now (loaded_in s) log old.state new.state
+            → IsReplayed Filled s.code.now (loaded_in s) log old.state new.state
         replayed takes = record {
           going = going;
           unit = turn.unit;
@@ -210,7 +211,7 @@ module _ (s : Setting) (log : List Log) (cursor : Cursor) where
           went done = went_by (picks turn.unit old.state) refl done
 
           stuck_by : (b : Bool) → picks turn.unit old.state ≡ b → result ≡ false → (last : State)
-              → IsReplayed s.code.now (loaded_in s) log old.state last → ⊥
+              → IsReplayed Filled s.code.now (loaded_in s) log old.state last → ⊥
           stuck_by false no_pick no_result last r =
               (none_is no_result).0
               (subst (λ (l : List Log). HasMark l cursor) (sym (log_same no_pick)) follows.at.mark)
@@ -225,5 +226,6 @@ module _ (s : Setting) (log : List Log) (cursor : Cursor) where
               (sym (next_of old.state follows.at) ∙ next) in
               (none_is no_result).1 r.pick entry.0 entry.1
 
-          pub stuck : result ≡ false → (last : State) → IsReplayed s.code.now (loaded_in s) log old.state last → ⊥
+          pub stuck : result ≡ false → (last : State) → IsReplayed Filled s.code.now (loaded_in s) log old.state last
+              → ⊥
           stuck no_result last r = stuck_by (picks turn.unit old.state) refl no_result last r

@@ -2,6 +2,7 @@ pub mod RestLemmas
 pub mod PickLemmas
 pub mod PlaceLemmas
 pub mod FillLemmas
+pub mod FilledLemmas
 pub mod UnitLemmas
 pub mod RunLemmas
 pub mod GoLemmas

@@ -19,7 +19,7 @@ use Rattle.cfi_unit.specs.declared.unit.Unit.TheVariants as units
 use Rattle.cfi_unit.proofs.CodeLemmas.{BeginsAt-one}
 use Rattle.cfi_valid.proofs.AnswerLemmas.{opens_as, opens_of, refused_same}
 use Rattle.cfi_valid.proofs.SinglesLemmas.{singles_more}
-use Rattle.cfi_valid.specs.Loaded.{LoadedModule, fills_between}
+use Rattle.cfi_valid.specs.Loaded.{LoadedModule, fills_between, Filled}
 use Rattle.cfi_valid.specs.Log.{why_of}
 use Rattle.cfi_valid.specs.Replay.{IsReplyOf, IsReplayed, TakesAnswer, TakesFrom, given_after, given_by, next_in, singles, singles_of}
 use Rattle.cfi_word.specs.declared.limits.TheConstants.{MAX_OPENS}
@@ -59,7 +59,7 @@ opens_by s is =
 -- ---- no answer
 
 no_reply : (loaded : List LoadedModule) (s : State) (reply : Reply) (entry : Option Log) → IsNoAnswer entry
-    → IsReplyOf loaded s (single_by entry) reply → ⊥
+    → IsReplyOf Filled loaded s (single_by entry) reply → ⊥
 no_reply loaded s reply (Some (Pick policy count)) none is = is
 no_reply loaded s reply (Some (Open number address policy)) none is = none
 no_reply loaded s reply (Some (Cause number cause)) none is = none
@@ -68,13 +68,13 @@ no_reply loaded s reply None none is = is
 module _ (s : Setting) (log : List Log) (cursor : Cursor) where
   pub no_open : (old : State) → (unit : CodeUnit) → Stands s.code.now old.pc unit → asks_of unit old ≡ true
       → IsNoAnswer (slice_get log cursor.at) → next_in log old ≡ single_by (slice_get log cursor.at)
-      → (last : State) → IsReplayed s.code.now (loaded_in s) log old last → ⊥
+      → (last : State) → IsReplayed Filled s.code.now (loaded_in s) log old last → ⊥
   no_open old unit stands asking none next last r =
       let same : r.unit ≡ unit = BeginsAt-one s.code.now _ r.unit unit r.stands.begins stands.begins in
       let there : asks_of r.unit old ≡ true = ap (λ (u : CodeUnit). asks_of u old) same ∙ asking in
       let reply = reply_taken (loaded_in s) (next_in log old) old r.unit there r.pick r.allowed r.reply r.takes in
       no_reply (loaded_in s) old r.reply (slice_get log cursor.at) none
-      (subst (λ (e : Option Log). IsReplyOf (loaded_in s) old e r.reply) next reply)
+      (subst (λ (e : Option Log). IsReplyOf Filled (loaded_in s) old e r.reply) next reply)
 
 -- ---- an answer
 
@@ -84,8 +84,8 @@ module _ (s : Setting) (log : List Log) (cursor : Cursor) (can : CanReplay s log
   where
     -- the machine has this reply, and logs an entry that stands for as much as the next one
     module _ (entry logged : Log) (next : slice_get log cursor.at ≡ Some entry) (reply : Reply)
-        (told : IsReplyOf (loaded_in s) old.state (Some entry) reply) (single_is : single_by (Some entry) ≡ Some entry)
-        (idle : new.waits ≡ false)
+        (told : IsReplyOf Filled (loaded_in s) old.state (Some entry) reply)
+        (single_is : single_by (Some entry) ≡ Some entry) (idle : new.waits ≡ false)
         (state_is : new.state ≡ going_to (after 4 old.state.pc) 1 (served Opens reply old.state))
         (log_is : new.state.log ≡ old.state.log ++ logged ∷ []) (one : singles_of logged ≡ logged ∷ [])
         (single : singles_of entry ≡ entry ∷ []) (used : cursor.used ≡ 0)
@@ -94,14 +94,14 @@ module _ (s : Setting) (log : List Log) (cursor : Cursor) (can : CanReplay s log
         (policy_logs : policy_after (last_policy old.state.log) logged ≡ policy_by cursor entry)
         (given_logs : given_after (given_by old.state.log) logged ≡ given_to cursor entry)
         (given_most : given_to cursor entry ≤ policy_by cursor entry) where
-      unit_gone : IsReplayed s.code.now (loaded_in s) log old.state new.state
+      unit_gone : IsReplayed Filled s.code.now (loaded_in s) log old.state new.state
       unit_gone =
           let next_is : next_in log old.state ≡ Some entry =
           next_of s log cursor old.state follows.at ∙ ap single_by next ∙ single_is in
-          let asked_told : TakesAnswer true (loaded_in s) old.state (next_in log old.state) reply =
-          subst (λ (e : Option Log). IsReplyOf (loaded_in s) old.state e reply) (sym next_is) told in
-          let takes : TakesFrom (loaded_in s) (next_in log old.state) units.Service old.state 0 true reply =
-          subst (λ (b : Bool). TakesAnswer b (loaded_in s) old.state (next_in log old.state) reply)
+          let asked_told : TakesAnswer Filled true (loaded_in s) old.state (next_in log old.state) reply =
+          subst (λ (e : Option Log). IsReplyOf Filled (loaded_in s) old.state e reply) (sym next_is) told in
+          let takes : TakesFrom Filled (loaded_in s) (next_in log old.state) units.Service old.state 0 true reply =
+          subst (λ (b : Bool). TakesAnswer Filled b (loaded_in s) old.state (next_in log old.state) reply)
           (sym asking.asks_it) asked_told in
           let effect_is : new.state ≡ effect units.Service 0 (λ slot target. true) reply old.state =
           state_is ∙ ap (λ (x : Service). going_to (after 4 old.state.pc) 1 (served x reply old.state))
@@ -158,10 +158,11 @@ module _ (s : Setting) (log : List Log) (cursor : Cursor) (can : CanReplay s log
         → HasAnswered log new.state.log policy policy cursor after_it → HasGone s log cursor old after_it new
     open_gone number address policy next is has =
         let entry : Log = Open number address policy in
-        let fills : fills_between cursor.given policy (loaded_in s)
-        ≡ fills_between (given_by old.state.log) policy (loaded_in s) =
-        ap (λ (g : ℕ). fills_between g policy (loaded_in s)) follows.at.given_is in
-        let reply : Reply = reply_of address 0 policy (fills_between (given_by old.state.log) policy (loaded_in s)) in
+        let fills : fills_between Filled cursor.given policy (loaded_in s)
+        ≡ fills_between Filled (given_by old.state.log) policy (loaded_in s) =
+        ap (λ (g : ℕ). fills_between Filled g policy (loaded_in s)) follows.at.given_is in
+        let reply : Reply =
+        reply_of address 0 policy (fills_between Filled (given_by old.state.log) policy (loaded_in s)) in
         let state_is : new.state ≡ going_to (after 4 old.state.pc) 1 (served Opens reply old.state) =
         ap (λ (m : PlainState). m.state) is
         ∙ ap (λ (fs : List Fill). going_to (after 4 old.state.pc) 1 (served Opens (reply_of address 0 policy fs) old.state))

@@ -9,7 +9,7 @@ use Rattle.cfi_model.specs.State.{State}
 use Rattle.cfi_unit.specs.declared.log.Log.{Log}
 use Rattle.cfi_unit.specs.declared.unit.Unit.{Unit as CodeUnit}
 use Rattle.cfi_unit.specs.declared.unit.Unit.TheVariants as units
-use Rattle.cfi_valid.specs.Loaded.{LoadedModule}
+use Rattle.cfi_valid.specs.Loaded.{LoadedModule, Filled}
 use Rattle.cfi_valid.specs.Log.{NeverFall}
 use Rattle.cfi_valid.specs.Replay.{IsReplayed, given_by, singles}
 use Rattle.cfi_replay.specs.Setting.{CanReplay}
@@ -65,6 +65,6 @@ effect_counts (units.Check link rs1 imm slot) pick allowed reply s = refl
 effect_counts units.Service pick allowed reply s = refl
 
 pub unit_counts : (code : List ℕ) (loaded : List LoadedModule) (log : List Log) (old new : State)
-    → IsReplayed code loaded log old new → new.units ≡ old.units + 1
+    → IsReplayed Filled code loaded log old new → new.units ≡ old.units + 1
 unit_counts code loaded log old new r =
     ap (λ (s : State). s.units) r.is ∙ effect_counts r.unit r.pick r.allowed r.reply old

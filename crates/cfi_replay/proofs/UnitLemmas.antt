@@ -13,7 +13,7 @@ use Rattle.cfi_unit.specs.declared.log.Log.TheVariants.{Pick, Open, Cause}
 use Rattle.cfi_unit.specs.declared.log.Stop.{Stop}
 use Rattle.cfi_unit.specs.declared.unit.Unit.{Unit as CodeUnit}
 use Rattle.cfi_unit.specs.declared.unit.Unit.TheVariants as units
-use Rattle.cfi_valid.specs.Loaded.{LoadedModule}
+use Rattle.cfi_valid.specs.Loaded.{LoadedModule, Filled}
 use Rattle.cfi_valid.specs.Replay.{IsReplyOf, TakesAnswer, TakesFrom, TakesPick}
 use Rattle.cfi_word.specs.declared.lists.Labels.{Labels}
 use Rattle.cfi_labels.specs.Labels.{AreLabelsAt}
@@ -105,7 +105,7 @@ effect_lets labels units.Service policy reply s = refl
 
 module _ (loaded : List LoadedModule) (next : Option Log) (s : State) (policy : ℕ) (labels : Labels) where
   pub takes_nothing : (unit : CodeUnit) → asks_of unit s ≡ false → picks unit s ≡ false
-      → TakesFrom loaded next unit s policy (lets labels unit s) too_many
+      → TakesFrom Filled loaded next unit s policy (lets labels unit s) too_many
   takes_nothing (units.Plain insn) idle none = tt
   takes_nothing (units.Load kind rd rs1 imm) idle none = tt
   takes_nothing (units.Store kind rs1 rs2 imm) idle none = tt
@@ -116,11 +116,11 @@ module _ (loaded : List LoadedModule) (next : Option Log) (s : State) (policy : 
       let taken : TakesPick false loaded next slot target policy (has_one_class labels slot target) = tt in
       subst (λ (b : Bool). TakesPick b loaded next slot target policy (has_one_class labels slot target)) (sym none) taken
   takes_nothing units.Service idle none =
-      let taken : TakesAnswer false loaded s next too_many = refl in
-      subst (λ (b : Bool). TakesAnswer b loaded s next too_many) (sym idle) taken
+      let taken : TakesAnswer Filled false loaded s next too_many = refl in
+      subst (λ (b : Bool). TakesAnswer Filled b loaded s next too_many) (sym idle) taken
 
   pub takes_pick : (unit : CodeUnit) → picks unit s ≡ true → next ≡ Some (Pick policy 1)
-      → AreLabelsAt loaded policy labels → TakesFrom loaded next unit s policy (lets labels unit s) too_many
+      → AreLabelsAt loaded policy labels → TakesFrom Filled loaded next unit s policy (lets labels unit s) too_many
   takes_pick (units.Plain insn) one is labels_are = tt
   takes_pick (units.Load kind rd rs1 imm) one is labels_are = tt
   takes_pick (units.Store kind rs1 rs2 imm) one is labels_are = tt
@@ -135,7 +135,7 @@ module _ (loaded : List LoadedModule) (next : Option Log) (s : State) (policy : 
 
 -- a check of a target in the code takes a pick
 pub pick_taken : (loaded : List LoadedModule) (next : Option Log) (s : State) (unit : CodeUnit) → picks unit s ≡ true
-    → (pick : ℕ) (allowed : Bool) (reply : Reply) → TakesFrom loaded next unit s pick allowed reply
+    → (pick : ℕ) (allowed : Bool) (reply : Reply) → TakesFrom Filled loaded next unit s pick allowed reply
     → next ≡ Some (Pick pick 1)
 pick_taken loaded next s (units.Plain insn) one pick allowed reply takes = absurd (false≢true one)
 pick_taken loaded next s (units.Load kind rd rs1 imm) one pick allowed reply takes = absurd (false≢true one)
@@ -150,7 +150,7 @@ pick_taken loaded next s units.Service one pick allowed reply takes = absurd (fa
 -- an open that can be logged takes a reply
 pub reply_taken : (loaded : List LoadedModule) (next : Option Log) (s : State) (unit : CodeUnit)
     → asks_of unit s ≡ true → (pick : ℕ) (allowed : Bool) (reply : Reply)
-    → TakesFrom loaded next unit s pick allowed reply → IsReplyOf loaded s next reply
+    → TakesFrom Filled loaded next unit s pick allowed reply → IsReplyOf Filled loaded s next reply
 reply_taken loaded next s (units.Plain insn) one pick allowed reply takes = absurd (false≢true one)
 reply_taken loaded next s (units.Load kind rd rs1 imm) one pick allowed reply takes = absurd (false≢true one)
 reply_taken loaded next s (units.Store kind rs1 rs2 imm) one pick allowed reply takes = absurd (false≢true one)
@@ -158,7 +158,7 @@ reply_taken loaded next s (units.Branch cond rs1 rs2 off) one pick allowed reply
 reply_taken loaded next s (units.Jump link off) one pick allowed reply takes = absurd (false≢true one)
 reply_taken loaded next s (units.Check link rs1 imm slot) one pick allowed reply takes = absurd (false≢true one)
 reply_taken loaded next s units.Service one pick allowed reply takes =
-    subst (λ (b : Bool). TakesAnswer b loaded s next reply) one takes
+    subst (λ (b : Bool). TakesAnswer Filled b loaded s next reply) one takes
 
 -- the next single entry is a pick where the entry is
 pub single_pick : (entry : Option Log) (policy : ℕ) → single_by entry ≡ Some (Pick policy 1)

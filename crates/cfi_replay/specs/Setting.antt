@@ -8,10 +8,11 @@ use Rattle.cfi_report.specs.declared.report.GuestPart.{GuestPart}
 use Rattle.cfi_unit.specs.declared.log.Log.{Log}
 use Rattle.cfi_unit.specs.declared.log.Log.TheVariants.{Cause}
 use Rattle.cfi_valid.specs.Course.{Course}
-use Rattle.cfi_valid.specs.Loaded.{LoadedModule, placed_modules}
+use Rattle.cfi_valid.specs.Loaded.{LoadedModule, placed_modules, Filled}
 use Rattle.cfi_valid.specs.Log.{NeverFall, Unlogged, why_of}
 use Rattle.cfi_valid.specs.Parts.{ComesTo}
 use Rattle.cfi_word.specs.declared.limits.TheConstants.{MAX_POLICY}
+use Rattle.cfi_labels.specs.Cells.{AreCellsOf}
 use Rattle.cfi_labels.specs.Labels.{AreLabelsOf, ComeInOrder}
 use Rattle.cfi_replay.specs.declared.setting.Setting.{Setting}
 
@@ -19,14 +20,15 @@ use Rattle.cfi_replay.specs.declared.setting.Setting.{Setting}
 abbrev pub loaded_in : Setting → List LoadedModule
 loaded_in s = loaded_in_roster s.roster.now
 
--- the roster is one of the plan, one module came with each policy, the code is that of all, and the labels are those of
--- the policies
+-- the roster is one of the plan, one module came with each policy, the code is that of all, and the labels and the cells
+-- are those of the policies
 pub record IsSetting (s : Setting) : Type 0 where
   pub roster : IsRosterOf s.plan.now s.roster.now
   pub order : ComeInOrder (loaded_in s) s.force
   pub few : s.force ≤ MAX_POLICY
   pub code : IsCodeOf (placed_modules (loaded_in s)) s.plan.now.code_words s.code.now
   pub labels : AreLabelsOf (loaded_in s) s.force s.labels.now
+  pub cells : AreCellsOf (loaded_in s) s.force s.cells.now
 
 -- a log can be replayed: its policies never fall, none is above the one in force, and each cause is one that is logged
 pub record CanReplay (s : Setting) (log : List Log) : Type 0 where
@@ -43,7 +45,7 @@ pub record IsCourseIn (s : Setting) (c : Course) : Type 0 where
 
 -- to this state, over this code
 pub record ComesOver (code : List ℕ) (c : Course) (part : GuestPart) (last : State) : Type 0 where
-  pub comes : ComesTo c part last
+  pub comes : ComesTo Filled c part last
   pub code_is : comes.code ≡ code
 
 -- in each such course to this state
@@ -52,4 +54,4 @@ ComesIn s part last = (c : Course) → IsCourseIn s c → ComesOver s.code.now c
 
 -- in none to any
 abbrev pub ComesNowhere : Setting → GuestPart → Type 0
-ComesNowhere s part = (c : Course) → IsCourseIn s c → (last : State) → ¬ ComesTo c part last
+ComesNowhere s part = (c : Course) → IsCourseIn s c → (last : State) → ¬ ComesTo Filled c part last

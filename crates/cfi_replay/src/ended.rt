@@ -3,6 +3,7 @@
 ghost use Rattle.std.specs.Prelude.{◌≡◌, ◌↔◌, IsTrue};
 ghost use Rattle.cfi_replay.specs.inner.Ended.{HasEnd};
 ghost use Rattle.cfi_valid.specs.Course.{Course};
+ghost use Rattle.cfi_valid.specs.Loaded.{Filled};
 ghost use Rattle.cfi_valid.specs.Parts.{ComesTo, HasEndedReplay};
 ghost use Rattle.cfi_valid.specs.Replay.{shown_stop};
 
@@ -70,7 +71,7 @@ fn has_end(machine: &Plain, part: &GuestPart) -> bool
 
 /// Whether the machine to which the units of a part come has ended as the part says, which says why it stopped.
 pub fn has_ended(machine: &Plain, part: &GuestPart) -> bool
-    ensures { (c : Course) → ComesTo c part.now machine.now.state →
+    ensures { (c : Course) → ComesTo Filled c part.now machine.now.state →
         IsTrue result ↔ HasEndedReplay c part.now }
 {
     part.stop.is_some() && has_end(machine, part)

@@ -1,4 +1,4 @@
-//! The data that comes with policies.
+//! The data that comes with policies, and the cells of late imports at each.
 
 ghost use Rattle.std.specs.Prelude.{◌≡◌, ◌<◌, ◌≤◌, ◌^◌, drop, length, take};
 ghost use Rattle.std.specs.List.{All};
@@ -7,7 +7,7 @@ ghost use Rattle.cfi_modules.specs.Entry.{HasAddresses};
 ghost use Rattle.cfi_modules.specs.Series.{IsSeries};
 ghost use Rattle.cfi_replay.specs.Setting.{IsSetting, loaded_in};
 ghost use Rattle.cfi_replay.specs.inner.Fills.{starts_in};
-ghost use Rattle.cfi_valid.specs.Loaded.{fills_between, start_fills, placed_modules, loaded_by};
+ghost use Rattle.cfi_valid.specs.Loaded.{cells_at, data_between, start_data, placed_modules, loaded_by};
 
 use crate::setting::Setting;
 use cfi_aux::Placed;
@@ -55,25 +55,38 @@ impl Setting<'_> {
     }
 
     /// Their data.
-    pub(crate) fn start_fills(&self) -> &[Fill]
+    pub(crate) fn start_data(&self) -> &[Fill]
         requires { IsSetting self.now }
-        ensures is { result.now ≡ start_fills (loaded_in self.now) }
+        ensures is { result.now ≡ start_data (loaded_in self.now) }
         ensures lies { All LiesInData result.now }
+        ensures series { IsSeries self.now.roster.now.code_words self.now.roster.now.placed }
     {
-        let fills = self.roster.fills();
-        fills_in(fills, 0, self.starts())
+        let data = self.roster.data();
+        fills_in(data, 0, self.starts())
     }
 
     /// The data that came above one policy and up to another.
-    pub(crate) fn fills_between(&self, above: u32, upto: u32) -> &[Fill]
+    pub(crate) fn data_between(&self, above: u32, upto: u32) -> &[Fill]
         requires setting { IsSetting self.now }
         requires order { above ≤ upto }
         requires most { upto ≤ self.now.force }
-        ensures is { result.now ≡ fills_between above upto (loaded_in self.now) }
+        ensures is { result.now ≡ data_between above upto (loaded_in self.now) }
         ensures lies { All LiesInData result.now }
+        ensures series { IsSeries self.now.roster.now.code_words self.now.roster.now.placed }
     {
         let starts = self.starts();
-        let fills = self.roster.fills();
-        fills_in(fills, starts + above as usize, starts + upto as usize)
+        let data = self.roster.data();
+        fills_in(data, starts + above as usize, starts + upto as usize)
+    }
+
+    /// The cells at a policy.
+    pub(crate) fn cells_at(&self, policy: u32) -> &[Fill]
+        requires setting { IsSetting self.now }
+        requires most { policy ≤ self.now.force }
+        requires series { IsSeries self.now.roster.now.code_words self.now.roster.now.placed }
+        ensures is { result.now ≡ cells_at policy (loaded_in self.now) }
+        ensures lies { All LiesInData result.now }
+    {
+        self.cells[policy as usize].as_slice()
     }
 }

@@ -1,9 +1,13 @@
 //! One unit of a replay.
 
-ghost use Rattle.std.specs.Prelude.{◌≡◌, ◌≢◌, ◌+◌, ◌<◌, ◌^◌, IsTrue, None, false, slice_get};
+ghost use Rattle.std.specs.Prelude.{◌≡◌, ◌≢◌, ◌+◌, ◌<◌, ◌≤◌, ◌^◌, IsTrue, None, false, slice_get, true};
+ghost use Rattle.cfi_model.specs.Log.{last_policy};
+ghost use Rattle.cfi_model.specs.Plain.{answered};
+ghost use Rattle.cfi_model.specs.Service.{reply_of};
 ghost use Rattle.cfi_model.specs.State.{State};
 ghost use Rattle.cfi_replay.specs.Setting.{CanReplay, IsSetting, loaded_in};
 ghost use Rattle.cfi_replay.specs.inner.Follows.{policy_next, Asks, Follows, HasAnsweredBy, HasGone, IsNoAnswer};
+ghost use Rattle.cfi_valid.specs.Loaded.{fills_between, Filled};
 ghost use Rattle.cfi_valid.specs.Replay.{IsReplayed};
 
 use crate::cursor::Cursor;
@@ -39,6 +43,27 @@ fn next_entry(log: &[Log], cursor: &Cursor) -> Option<Log>
 }
 
 impl Setting<'_> {
+    // Answers the open for which the machine waits with a success: it brings the data up to the policy that the guest
+    // lacks, and then the cells.
+    fn open(&self, machine: &mut Plain, address: u32, given: u32, policy: u32)
+        requires setting { IsSetting self.now }
+        requires order { given ≤ policy }
+        requires most { policy ≤ self.now.force }
+        requires waiting { machine.old.waits ≡ true }
+        requires rises { last_policy machine.old.state.log ≤ policy }
+        ensures { machine.new ≡ answered (reply_of address 0 policy
+            (fills_between Filled given policy (loaded_in self.now))) machine.old }
+    {
+        let fills = self.data_between(given, policy);
+        machine.answer(&Answer {
+            address,
+            cause: 0,
+            policy,
+            fills,
+        });
+        machine.fill(self.cells_at(policy));
+    }
+
     // Answers the open for which the machine waits with the next entry of the log. False where that is none of an open.
     fn answer(&self, log: &[Log], machine: &mut Plain, cursor: &mut Cursor) -> bool
         requires setting { IsSetting self.now }
@@ -55,13 +80,7 @@ impl Setting<'_> {
                     ..
                 },
             ) => {
-                let fills = self.fills_between(cursor.given, policy);
-                machine.answer(&Answer {
-                    address,
-                    cause: 0,
-                    policy,
-                    fills,
-                });
+                self.open(machine, address, cursor.given, policy);
                 cursor.answered(log, machine.log(), policy, policy);
             }
             Some(Log::Cause { cause, .. }) => {
@@ -89,7 +108,8 @@ impl Setting<'_> {
         ensures went { IsTrue result →
             HasGone self.now log.now cursor.old machine.old cursor.new machine.new }
         ensures stuck { result ≡ false → (new : State) →
-            ¬ IsReplayed self.now.code.now (loaded_in self.now) log.now machine.old.state new }
+            ¬ IsReplayed Filled self.now.code.now (loaded_in self.now) log.now
+            machine.old.state new }
     {
         if has_stopped(machine) {
             return false;

@@ -1,9 +1,11 @@
 //! The replay of a guest's part.
 
-ghost use Rattle.std.specs.Prelude.{IfNone, IfOk, IfSome};
-ghost use Rattle.cfi_replay.specs.Setting.{CanReplay, IsSetting, ComesIn, ComesNowhere};
+ghost use Rattle.std.specs.Prelude.{◌≡◌, IfNone, IfOk, IfSome};
+ghost use Rattle.cfi_replay.specs.Setting.{loaded_in, CanReplay, IsSetting, ComesIn, ComesNowhere};
+ghost use Rattle.cfi_model.specs.Plain.{plain_opened};
 ghost use Rattle.cfi_model.specs.State.{State};
 ghost use Rattle.cfi_replay.specs.inner.Follows.{HasReplayed, IsStart};
+ghost use Rattle.cfi_valid.specs.Loaded.{start_fills, Filled};
 
 use crate::cursor::Cursor;
 use crate::setting::Setting;
@@ -12,6 +14,22 @@ use cfi_model::Plain;
 use cfi_report::GuestPart;
 use cfi_unit::Log;
 use std::alloc::{AllocError, Global};
+
+// The machine of a guest at its start, with the data of the start modules and then the cells at policy 0.
+fn opened(
+    alloc: Global,
+    setting: &Setting<'_>,
+    number: u32,
+    address: u32,
+) -> Result<Plain, AllocError>
+    requires { IsSetting setting.now }
+    ensures { IfOk result (λ m. m ≡ plain_opened number address
+        (start_fills Filled (loaded_in setting.now))) }
+{
+    let mut machine = Plain::open(alloc, number, address, setting.start_data())?;
+    machine.fill(setting.cells_at(0));
+    Ok(machine)
+}
 
 // The machine after so many units over the log. `None` where it does not come so far.
 fn follow(setting: &Setting<'_>, log: &[Log], start: Plain, units: u32) -> Option<Plain>
@@ -49,6 +67,6 @@ pub fn replayed(
     let Some(address) = entry_at(setting.plan, starts, part.entry.as_str()) else {
         return Ok(None);
     };
-    let machine = Plain::open(alloc, part.number, address, setting.start_fills())?;
+    let machine = opened(alloc, setting, part.number, address)?;
     Ok(follow(setting, part.log.as_slice(), machine, part.units))
 }

@@ -2,6 +2,8 @@
 
 use cfi_ledger::Roster;
 use cfi_plan::Plan;
+use cfi_unit::Fill;
+use cfi_values::Items;
 use cfi_word::Labels;
 
 /// Over what the guests of a report are replayed.
@@ -17,4 +19,6 @@ pub struct Setting<'a> {
     pub code: &'a [u32],
     /// The labels of each policy up to the one in force, by its number.
     pub labels: &'a [Labels],
+    /// The cells of late imports at each policy up to the one in force, by its number.
+    pub cells: &'a [Items<Fill>],
 }

@@ -7,7 +7,7 @@ use Rattle.cfi_model.specs.Service.{Reply, reply_of}
 use Rattle.cfi_model.specs.State.{State}
 use Rattle.cfi_unit.specs.declared.log.Log.{Log}
 use Rattle.cfi_unit.specs.declared.log.Log.TheVariants.{Pick, Open, Cause}
-use Rattle.cfi_valid.specs.Loaded.{fills_between}
+use Rattle.cfi_valid.specs.Loaded.{fills_between, Filled}
 use Rattle.cfi_valid.specs.Log.{NeverFall}
 use Rattle.cfi_valid.specs.Replay.{singles, given_by, IsReplayed, Replays}
 use Rattle.cfi_replay.specs.Setting.{loaded_in}
@@ -50,7 +50,7 @@ policy_next policy None = policy
 -- a unit is replayed, and the machine follows on
 pub record HasGone (s : Setting) (log : List Log) (old_cursor : Cursor) (old : PlainState) (new_cursor : Cursor)
     (new : PlainState) : Type 0 where
-  pub unit : IsReplayed s.code.now (loaded_in s) log old.state new.state
+  pub unit : IsReplayed Filled s.code.now (loaded_in s) log old.state new.state
   pub follows : Follows s log new_cursor new
 
 -- ---- an open
@@ -61,11 +61,11 @@ pub record Asks (s : Setting) (log : List Log) (cursor : Cursor) (m : PlainState
   pub at : IsAt log cursor m.state
   pub rises : Rises s.force cursor (drop cursor.at log)
 
--- the answer by an entry: an open brings the data up to its policy, a cause none
+-- the answer by an entry: an open brings the data up to its policy and the cells at it, a cause none
 abbrev pub reply_by : Setting → Cursor → Log → Reply
 reply_by s cursor (Pick policy count) = reply_of 0 0 0 []
 reply_by s cursor (Open number address policy) =
-    reply_of address 0 policy (fills_between cursor.given policy (loaded_in s))
+    reply_of address 0 policy (fills_between Filled cursor.given policy (loaded_in s))
 reply_by s cursor (Cause number cause) = reply_of 0 cause cursor.policy []
 
 -- the policy and the policy of data after it
@@ -112,4 +112,4 @@ pub record IsStart (m : PlainState) : Type 0 where
 
 -- so many units lead from one state to another
 abbrev pub HasReplayed : Setting → List Log → (units : ℕ) → (start last : State) → Type 0
-HasReplayed s log units start last = Replays s.code.now (loaded_in s) log units start last
+HasReplayed s log units start last = Replays Filled s.code.now (loaded_in s) log units start last

@@ -1,4 +1,4 @@
-use Rattle.std.proofs.Common.{◌≡◌, ◌<◌, ℕ, List, length, get_or, sym, subst, arith}
+use Rattle.std.proofs.Common.{◌<◌, length, get_or, subst, arith}
 use Rattle.cfi_judge.specs.declared.told.Told.{Told}
 use Rattle.cfi_judge.specs.inner.Next.{Takes}
 use Rattle.cfi_judge.specs.inner.Told.{told_origin}

@@ -1,4 +1,4 @@
-use Rattle.cfi_valid.specs.Parts.{FitsEndedSteps, HasEndedReplay}
+use Rattle.cfi_valid.specs.Parts.{FitsEndedSteps}
 use Rattle.cfi_judge.proofs.RunLemmas.{has_run, not_ended}
 use Rattle.cfi_judge.proofs.YesLemmas.{not_answered}
 use Rattle.cfi_judge.proofs.runs.outcome_at.Goals as goal

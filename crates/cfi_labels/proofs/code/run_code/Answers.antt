@@ -1,4 +1,4 @@
-use Rattle.std.proofs.Common.{◌≡◌, ◌∙◌, ℕ, List, IfOk, sym, subst}
+use Rattle.std.proofs.Common.{◌∙◌, ℕ, List, IfOk, sym, subst}
 use Rattle.cfi_aux.specs.declared.placed.Placed.{Placed}
 use Rattle.cfi_ledger.specs.Roster.{origin_of}
 use Rattle.cfi_policy.proofs.EdgeLemmas.{apart_in}

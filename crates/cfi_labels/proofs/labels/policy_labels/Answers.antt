@@ -2,7 +2,7 @@ use Rattle.std.proofs.Common.{◌≡◌, ℕ, ◌+◌, ◌≤◌, List, length, 
 use Rattle.cfi_aux.specs.declared.placed.Placed.{Placed}
 use Rattle.cfi_modules.specs.Series.{IsSeries}
 use Rattle.cfi_word.specs.declared.lists.Labels.{Labels}
-use Rattle.cfi_labels.proofs.SetLemmas.{AreSets, sets_more, sets_none, sets_whole}
+use Rattle.cfi_labels.proofs.LabelLemmas.{LabelsSoFar, labels_more}
 use Rattle.cfi_labels.specs.inner.Sets.{IsSetOf}
 use Rattle.cfi_labels.proofs.labels.policy_labels.Goals as goal
 
@@ -12,18 +12,6 @@ first_labels-requires-clause-series c =
     subst (λ (words : ℕ). IsSeries words c.modules-modules.result.now) (sym c.requires.layout)
     (subst (λ (ms : List Placed). IsSeries r.code_words ms) (sym c.modules-modules.ensures.value)
     c.modules-modules.ensures.series)
-
-pub first_labels-requires-clause-within : goal.first_labels-requires-clause-within
-first_labels-requires-clause-within c =
-    let placed = ap (λ ms. length ms) c.modules-modules.ensures.value in
-    let lines = ap (λ lines. length lines) c.lines-many.ensures.value in
-    omega (arith, c.loop-count-test.true, placed, lines, c.lines-many.ensures.many)
-
-pub loop-count-init : goal.loop-count-init
-loop-count-init c =
-    let starts = c.start_count-starts.result in
-    subst (λ (sets : List Labels). AreSets c.args.roster.now c.args.last starts sets) (sym c.new-sets.ensures.items)
-    (sets_none c.args.roster.now c.args.last starts c.start_count-starts.ensures)
 
 -- the labels of the first so many modules are those of one policy more
 pub loop-count-preserved : goal.loop-count-preserved
@@ -38,17 +26,20 @@ loop-count-preserved c =
     c.in_ok-first_labels.ensures in
     let is : IsSetOf r.code_words (take count r.placed) labels =
     subst (λ (words : ℕ). IsSetOf words (take count r.placed) labels) c.requires.layout placed in
-    subst (λ (sets : List Labels). AreSets r c.args.last (count + 1) sets) (sym c.in_ok-push.ensures.items)
-    (sets_more r c.lines-many.ensures.many c.args.last c.requires.order c.modules-modules.ensures.series images
-    c.loop-count.sets.items count labels c.loop-count.invariant is)
+    subst (λ (sets : List Labels). LabelsSoFar r c.args.last (count + 1) sets) (sym c.in_ok-push.ensures.items)
+    (labels_more r c.start_count-starts.ensures.lined c.args.last c.requires.order c.modules-modules.ensures.series
+    images c.loop-count.sets.items count labels c.loop-count.invariant is)
 
 pub returns : goal.returns
 returns c =
     let r = c.args.roster.now in
-    let count = c.loop-count.count in
-    let lines = ap (λ lines. length lines) c.lines-many.ensures.value in
-    let starts : c.start_count-starts.result ≤ length c.lines-many.result.now + 1 =
-    omega (arith, c.start_count-starts.ensures, lines, c.lines-many.ensures.many) in
-    let end : count ≡ length r.placed + 1 =
-    omega (arith, c.loop-count-test.false, c.loop-count.auto.count-end starts, lines, c.lines-many.ensures.many) in
-    sets_whole r c.args.last count c.loop-count.sets.items c.loop-count.invariant end
+    let many : length c.modules-modules.result.now ≡ length r.placed =
+    ap (λ (ms : List Placed). length ms) c.modules-modules.ensures.value in
+    let starts : c.start_count-starts.result ≤ length c.modules-modules.result.now + 1 =
+    omega (arith, c.start_count-starts.ensures.is, many) in
+    let end : c.loop-count.count ≡ length r.placed + 1 =
+    omega (arith, c.loop-count-test.false, c.loop-count.auto.count-end starts, many) in
+    record {
+      count = omega (arith, c.loop-count.invariant.count, end);
+      each = c.loop-count.invariant.each;
+    }

@@ -1,5 +1,5 @@
-use Rattle.cfi_labels.proofs.SetLemmas.{AreSets}
+use Rattle.cfi_labels.proofs.LabelLemmas.{LabelsSoFar}
 use Rattle.cfi_labels.proofs.labels.policy_labels.Given as goal
 
 abbrev pub invariant-loop-count : goal.invariant-loop-count
-invariant-loop-count l = AreSets l.roster l.last l.count l.sets.items
+invariant-loop-count l = LabelsSoFar l.roster l.last l.count l.sets.items

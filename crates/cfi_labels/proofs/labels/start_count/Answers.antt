@@ -8,8 +8,8 @@ overflow_sub-result c =
     let count = starts_count r c.lines.ensures.many c.args.last c.requires in
     omega (arith, count, c.lines.ensures.many, ap (λ lines. length lines) c.lines.ensures.value)
 
-pub returns : goal.returns
-returns c =
+pub returns-clause-is : goal.returns-clause-is
+returns-clause-is c =
     let r = c.args.roster.now in
     let count = starts_count r c.lines.ensures.many c.args.last c.requires in
     omega (arith, count, c.lines.ensures.many, ap (λ lines. length lines) c.lines.ensures.value)

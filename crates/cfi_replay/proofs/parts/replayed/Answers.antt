@@ -1,13 +1,12 @@
-use Rattle.std.proofs.Common.{◌≡◌, ℕ, List, sym, ap, subst, ◌∙◌}
+use Rattle.std.proofs.Common.{◌≡◌, ℕ, List, sym, ap, subst}
 use Rattle.std.specs.Prelude.{IfNone, None, Option, Some}
 use Rattle.std.proofs.lemmas.Option.{IfSome_then}
 use Rattle.cfi_aux.specs.declared.placed.Placed.{Placed}
 use Rattle.cfi_model.specs.State.{State, opened}
 use Rattle.cfi_model.specs.Plain.{PlainState}
-use Rattle.cfi_unit.specs.declared.fill.Fill.{Fill}
 use Rattle.cfi_unit.specs.declared.log.Log.{Log}
 use Rattle.cfi_valid.specs.Guests.{EntersIn, GuestBegins}
-use Rattle.cfi_valid.specs.Loaded.{start_fills}
+use Rattle.cfi_valid.specs.Loaded.{start_fills, Filled}
 use Rattle.cfi_replay.specs.Setting.{loaded_in}
 use Rattle.cfi_replay.specs.inner.Follows.{HasReplayed}
 use Rattle.cfi_replay.proofs.EndLemmas.{comes_in, replay_there}
@@ -28,9 +27,9 @@ returns-clause-some c =
     let begins : GuestBegins s.plan.now (loaded_in s) part.entry c.in-Some.address =
     subst (λ (ms : List Placed). EntersIn s.plan.now ms part.entry c.in-Some.address) c.start_modules-starts.ensures.is
     entered in
-    let start : c.in_ok-machine.machine.state ≡ opened part.number c.in-Some.address (start_fills (loaded_in s)) =
-    ap (λ (m : PlainState). m.state) c.in_ok-machine.ensures
-    ∙ ap (λ (fills : List Fill). opened part.number c.in-Some.address fills) c.start_fills.ensures.is in
+    let start : c.in_ok-machine.machine.state
+    ≡ opened part.number c.in-Some.address (start_fills Filled (loaded_in s)) =
+    ap (λ (m : PlainState). m.state) c.in_ok-machine.ensures in
     IfSome_then c.follow.result c.follow.ensures.some
     (λ m replay. comes_in s c.requires.setting part c.in-Some.address begins m.state
     (subst (λ (st : State). HasReplayed s part.log part.units st m.state) start
@@ -46,9 +45,9 @@ returns-clause-none c =
     let begins : GuestBegins s.plan.now (loaded_in s) part.entry c.in-Some.address =
     subst (λ (ms : List Placed). EntersIn s.plan.now ms part.entry c.in-Some.address) c.start_modules-starts.ensures.is
     entered in
-    let start : c.in_ok-machine.machine.state ≡ opened part.number c.in-Some.address (start_fills (loaded_in s)) =
-    ap (λ (m : PlainState). m.state) c.in_ok-machine.ensures
-    ∙ ap (λ (fills : List Fill). opened part.number c.in-Some.address fills) c.start_fills.ensures.is in
+    let start : c.in_ok-machine.machine.state
+    ≡ opened part.number c.in-Some.address (start_fills Filled (loaded_in s)) =
+    ap (λ (m : PlainState). m.state) c.in_ok-machine.ensures in
     none_then c.follow.result c.follow.ensures.none
     (λ none course in_it last comes. none last
     (subst (λ (l : List Log). HasReplayed s l part.units c.in_ok-machine.machine.state last) (sym c.as_slice.ensures)

@@ -1,4 +1,3 @@
-use Rattle.std.proofs.Common.{refl}
 use Rattle.cfi_judge.proofs.ItemLemmas.{item_there}
 use Rattle.cfi_judge.proofs.NextLemmas.{series_fits, series_more}
 use Rattle.cfi_judge.proofs.next.Next.behind.Goals as goal

@@ -1,11 +1,9 @@
-use Rattle.std.proofs.Common.{◌≡◌, List, Some, ap, sym, ◌∙◌, subst}
-use Rattle.std.specs.List.{slice_get}
-use Rattle.cfi_aux.specs.declared.placed.Placed.{Placed}
+use Rattle.std.proofs.Common.{Some, sym, subst}
 use Rattle.cfi_aux.specs.Sound.{IsSoundModule}
 use Rattle.cfi_judge.specs.inner.Next.{StandsThere}
 use Rattle.cfi_judge.specs.inner.Told.{told_origin}
 use Rattle.cfi_judge.proofs.ItemLemmas.{item_there}
-use Rattle.cfi_judge.proofs.NextLemmas.{fits_at, takes_no_line, takes_no_number, takes_no_place, takes_one}
+use Rattle.cfi_judge.proofs.NextLemmas.{fits_at, takes_no_place, takes_one}
 use Rattle.cfi_judge.proofs.next.Next.take.Goals as goal
 
 pub pass-requires : goal.pass-requires

@@ -1,4 +1,5 @@
 use Rattle.std.proofs.Common.{rules, ◌≡◌, ℕ, sym, subst}
+use Rattle.cfi_labels.specs.Cells.{AreCellsOf}
 use Rattle.cfi_labels.specs.Labels.{AreLabelsOf}
 use Rattle.cfi_ledger.specs.Roster.{loaded_in_roster}
 use Rattle.cfi_policy.specs.Code.{IsCodeOf}
@@ -12,6 +13,14 @@ policy_labels-requires-clause-order c =
     let t = c.args.self.now in
     c.journals_load_in_order.ensures t.plan.now t.modules.now t.report.now (state_of t.end.now) c.requires.trial.can
     c.requires.trial.journal
+
+pub policy_cells-requires : goal.policy_cells-requires
+policy_cells-requires c =
+    let t = c.args.self.now in
+    record {
+      order = c.journals_load_in_order.ensures t.plan.now t.modules.now t.report.now (state_of t.end.now)
+          c.requires.trial.can c.requires.trial.journal;
+    }
 
 -- the setting of the replays
 pub replay_in-requires-clause-setting : goal.replay_in-requires-clause-setting
@@ -29,4 +38,5 @@ replay_in-requires-clause-setting c =
       code = subst (IsCodeOf (placed_modules loaded) t.plan.now.code_words) (sym c.as_slice.ensures)
           (subst (λ (n : ℕ). IsCodeOf (placed_modules loaded) n c.in_ok-code.code) size c.in_ok-code.ensures);
       labels = subst (AreLabelsOf loaded t.end.now.policy) (sym c.as_slice-2.ensures.value) c.in_ok-labels.ensures;
+      cells = subst (AreCellsOf loaded t.end.now.policy) (sym c.as_slice-3.ensures.value) c.in_ok-cells.ensures;
     }

@@ -8,33 +8,28 @@ use Rattle.cfi_replay.proofs.PlaceLemmas.{next_policy_most}
 use Rattle.cfi_replay.proofs.RestLemmas.{fold_above}
 use Rattle.cfi_replay.proofs.setting.Setting.answer.Goals as goal
 
-pub fills_between-fills-requires-clause-order : goal.fills_between-fills-requires-clause-order
-fills_between-fills-requires-clause-order c =
+pub open-requires-clause-order : goal.open-requires-clause-order
+open-requires-clause-order c =
     let next : slice_get c.args.log.now c.args.cursor.now.at
     ≡ Some (Open c.in-Some-Open.field-0-0 c.in-Some-Open.address c.in-Some-Open.policy) = cc in
     let most = next_policy_most c.args.self.now.force c.args.log.now c.args.cursor.now _ next c.requires.asks.rises in
     omega (arith, most.0, c.requires.asks.rises.given)
 
-pub fills_between-fills-requires-clause-most : goal.fills_between-fills-requires-clause-most
-fills_between-fills-requires-clause-most c =
+pub open-requires-clause-most : goal.open-requires-clause-most
+open-requires-clause-most c =
     let next : slice_get c.args.log.now c.args.cursor.now.at
     ≡ Some (Open c.in-Some-Open.field-0-0 c.in-Some-Open.address c.in-Some-Open.policy) = cc in
     (next_policy_most c.args.self.now.force c.args.log.now c.args.cursor.now _ next c.requires.asks.rises).1
 
-pub answer-requires : goal.answer-requires
-answer-requires c =
+pub open-requires-clause-rises : goal.open-requires-clause-rises
+open-requires-clause-rises c =
     let next : slice_get c.args.log.now c.args.cursor.now.at
     ≡ Some (Open c.in-Some-Open.field-0-0 c.in-Some-Open.address c.in-Some-Open.policy) = cc in
     let most = next_policy_most c.args.self.now.force c.args.log.now c.args.cursor.now _ next c.requires.asks.rises in
-    record {
-      waiting = c.requires.asks.waiting;
-      inside = c.fills_between-fills.ensures.lies;
-      rises = omega (arith, most.0, c.requires.asks.at.policy_is);
-      most = omega (arith, most.1, c.requires.setting.few);
-    }
+    omega (arith, most.0, c.requires.asks.at.policy_is)
 
-pub answer-requires-in-Some-Cause : goal.answer-requires-in-Some-Cause
-answer-requires-in-Some-Cause c =
+pub answer-requires : goal.answer-requires
+answer-requires c =
     let rises = c.requires.asks.rises in
     let least = fold_above c.args.cursor.now.policy _ rises.rises in
     record {
