@@ -49,6 +49,7 @@ class Machine:
     modules: list[Placed]
     guest: Guest
     pc: int
+    fills: bool  # the cells of late imports, as a run does and a simulation does not
     regs: list[int] = field(default_factory=lambda: [0] * 32)
     memory: bytearray = field(default_factory=lambda: bytearray(SIZE))
     out: bytearray = field(default_factory=bytearray)
@@ -65,11 +66,20 @@ class Machine:
         self.give(0)
 
     def give(self, policy: int):
-        """Gives the data of the modules that came up to this policy and that the guest lacks."""
+        """Gives the data of the modules that came up to this policy and that the guest lacks, and then the cells."""
         for it in self.modules:
             if self.given < it.policy <= policy:
-                self.memory[it.data_base - DATA:it.data_base - DATA + len(it.data)] = it.data
+                self.write(it.data_base, it.data)
         self.given = max(self.given, policy)
+        there = [it for it in self.modules if it.policy <= policy and self.fills]
+        for it in there:
+            for cell, name in it.cells:
+                found = [place for other in there if (place := other.function(name)) is not None]
+                self.write(it.data_base + cell, (found[0] if found else 0).to_bytes(4, "little"))
+
+    def write(self, address: int, data: bytes):
+        """Writes bytes into the private data."""
+        self.memory[address - DATA:address - DATA + len(data)] = data
 
     def unfit(self, what: str) -> Unfit:
         """Why this is not the run that the report tells of."""

@@ -22,9 +22,10 @@ class Function:
 
 @dataclass(frozen=True)
 class Records:
-    """The records of an object: its functions, and the kind of each indirect jump."""
+    """The records of an object: its functions, the kind of each indirect jump, and the cells of late imports."""
     functions: tuple[Function, ...]
     kinds: tuple[str, ...]
+    cells: tuple[tuple[int, str], ...]  # where each begins in the data, and the name of its import
 
     def place_of(self, offset: int) -> str:
         """A place of the text as `function+offset`."""
@@ -54,15 +55,15 @@ def read_records(name: str) -> Records:
     """The records of the object in the file of this name; none where it has none, as what a compiler makes."""
     section = sections_of(data_of(name)).get(".cfi_records")
     try:
-        return Records(*records_in(section)) if section is not None else Records((), ())
+        return records_in(section) if section is not None else Records((), (), ())
     except (struct.error, IndexError, UnicodeDecodeError) as fault:
         raise Unfit(f"{name} has damaged records: `cfi verify` tells their fault") from fault
 
 
-def records_in(section: bytes) -> tuple[tuple[Function, ...], tuple[str, ...]]:
-    """The functions and the kinds of jumps of a section of records."""
+def records_in(section: bytes) -> Records:
+    """The records of their section."""
     (_, count, jumps), at = struct.unpack_from("<3I", section), 12
-    functions, kinds = [], []
+    functions, kinds, cells = [], [], []
     for _ in range(count):
         place, length, _, _, size = struct.unpack_from("<5I", section, at)
         functions.append(Function(section[at + 20:at + 20 + size].decode(), place, length))
@@ -70,8 +71,11 @@ def records_in(section: bytes) -> tuple[tuple[Function, ...], tuple[str, ...]]:
     for _ in range(jumps):
         kind, fields = struct.unpack_from("<2I", section, at)
         kinds.append(KINDS[kind])
+        if KINDS[kind] == "import":
+            cell, size = struct.unpack_from("<2I", section, at + 8)
+            cells.append((cell, section[at + 16:at + 16 + size].decode()))
         at += 8 + 4 * fields
-    return tuple(functions), tuple(kinds)
+    return Records(tuple(functions), tuple(kinds), tuple(cells))
 
 
 @dataclass(frozen=True)

@@ -9,7 +9,7 @@ import re
 from dataclasses import dataclass, field
 
 from formats import Loaded, PlanModule, Unfit
-from objects import Parts, Reloc, read_parts
+from objects import Parts, Reloc, read_parts, read_records
 from places import ask
 
 BRANCH, JAL, PCREL_HIGH, HIGH, WORD, ADD, SUB = 16, 17, 23, 26, 1, 35, 39
@@ -26,12 +26,18 @@ class Placed:
     rows: list[str]  # its instructions, as listed
     marks: list[str]  # and for each `check`, `load`, `store` or nothing
     parts: Parts
+    cells: tuple[tuple[int, str], ...]  # of late imports: where each begins in the data, and the name
     data: bytearray = field(default_factory=bytearray)
 
     def own(self, symbol) -> int | None:
         """The address of a symbol that the module defines."""
         base = {"text": self.begin, "data": self.data_base, "absolute": 0}.get(symbol.place)
         return None if base is None else (base + symbol.value) % 2 ** 32
+
+    def function(self, name: str) -> int | None:
+        """The address of its global function of a name."""
+        found = [it for it in self.parts.symbols if it.name == name and not it.local and it.place == "text"]
+        return self.own(found[0]) if found else None
 
 
 def high(value: int) -> int:
@@ -99,7 +105,8 @@ def place(module: PlanModule, line: Loaded, before: list[Placed]) -> Placed:
     parts = read_parts(module.file)
     rows, marks = [it[1] for it in listed], [it[2] for it in listed]
     data = bytearray(parts.data)
-    placed = Placed(module.name, 4 * line.base, line.data, line.policy, rows, marks, parts, data)
+    cells = read_records(module.file).cells
+    placed = Placed(module.name, 4 * line.base, line.data, line.policy, rows, marks, parts, cells, data)
     fill(placed, before)
     return placed
 
