@@ -1,3 +1,4 @@
+pub mod BookLemmas
 pub mod ClassLemmas
 pub mod LoadedLemmas
 pub mod SetLemmas

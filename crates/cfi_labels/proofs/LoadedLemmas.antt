@@ -40,6 +40,10 @@ module _ (r : Roster) (lined : length r.lines ≡ length r.placed) (last : ℕ)
       ∙ sym (take-map (λ (l : LoadedModule). l.placed) (come.starts + policy) (loaded_in_roster r))
       ∙ ap (λ (ps : List Placed). take (come.starts + policy) ps) places_all
 
+  -- those of the start
+  pub start_places : placed_modules (loaded_by 0 (loaded_in_roster r)) ≡ take come.starts r.placed
+  start_places = places_first 0 ∙ ap (λ (n : ℕ). take n r.placed) (omega arith)
+
   -- how many there were at the start
   pub starts_count : length r.placed ≡ come.starts + last
   starts_count = sym (many_are origin_of r.lines r.placed lined) ∙ come.count

@@ -1,2 +1,2 @@
 -- What only private clauses cite.
-pub mod Sets
+pub mod Books

@@ -7,7 +7,7 @@ ghost use Rattle.cfi_labels.specs.Cells.{AreCellsOf};
 ghost use Rattle.cfi_labels.specs.Labels.{ComeInOrder};
 ghost use Rattle.cfi_ledger.specs.Roster.{loaded_in_roster};
 
-use crate::labels::start_count;
+use crate::start::modules_at_start;
 use cfi_aux::Placed;
 use cfi_graph::cells;
 use cfi_ledger::Roster;
@@ -44,7 +44,7 @@ pub fn policy_cells(
     series_have_cells();
     let modules = roster.modules();
     let many = modules.len();
-    let starts = start_count(roster, last);
+    let starts = modules_at_start(roster, last).len();
     let mut sets = Vec::new(alloc);
     for count in starts..many + 1 {
         sets.push(first_cells(alloc, modules, count)?)?;

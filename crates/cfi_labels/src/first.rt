@@ -1,17 +1,17 @@
-//! The labels of the first modules of a series.
+//! The books of the first modules of a roster.
 
-ghost use Rattle.std.specs.Prelude.{◌≡◌, ◌≤◌, ℕ, List, IfOk, length, take};
+ghost use Rattle.std.specs.Prelude.{◌≡◌, ◌+◌, ◌<◌, ◌≤◌, ℕ, List, IfOk, length, take};
 ghost use Rattle.cfi_aux.specs.declared.placed.Placed.{Placed as PlacedModule};
-ghost use Rattle.cfi_labels.specs.inner.Sets.{IsSetOf};
+ghost use Rattle.cfi_labels.specs.inner.Books.{IsBookOfFirst};
 ghost use Rattle.cfi_modules.specs.Series.{IsSeries};
 ghost use Rattle.cfi_policy.specs.Image.{HaveImage};
 
-use cfi_aux::Placed;
+use cfi_ledger::Roster;
 use cfi_modules::{
     loaded_have_image, series_are_closed_below, series_are_loaded, series_have_graph,
 };
-use cfi_policy::image_of;
-use cfi_word::{Image, Labels, Layout};
+use cfi_policy::{Book, code_of};
+use cfi_word::Layout;
 use std::alloc::{AllocError, Global};
 
 /// The first modules of a series have an image.
@@ -25,22 +25,36 @@ pub(crate) fn first_have_image()
     loaded_have_image();
 }
 
-/// The labels of the first so many modules of a series.
-pub(crate) fn first_labels(
+/// The book of the first so many modules.
+pub(crate) fn first_book(
     alloc: Global,
-    modules: &[Placed],
+    roster: &Roster,
     count: usize,
     layout: &Layout,
-) -> Result<Labels, AllocError>
-    requires series { IsSeries layout.now modules.now }
-    requires within { count ≤ length modules.now }
-    ensures { IfOk result (IsSetOf layout.now (take count modules.now)) }
+) -> Result<Book, AllocError>
+    requires layout { layout.now ≡ roster.now.code_words }
+    requires within { count ≤ length roster.now.placed }
+    ensures { IfOk result (IsBookOfFirst roster.now count) }
 {
     first_have_image();
-    let Image {
-        tary,
-        bary,
-        code: _,
-    } = image_of(alloc, &modules[..count], layout)?;
-    Ok(Labels { tary, bary })
+    let modules = roster.modules();
+    let first = &modules[..count];
+    let code = code_of(alloc, first, layout)?;
+    Book::of(alloc, first, code.as_slice(), layout)
+}
+
+/// The book of one module more than the first so many, behind that of these.
+pub(crate) fn book_with_next(
+    alloc: Global,
+    roster: &Roster,
+    count: usize,
+    before: &Book,
+) -> Result<Book, AllocError>
+    requires within { count < length roster.now.placed }
+    requires book { IsBookOfFirst roster.now count before.now }
+    ensures { IfOk result (IsBookOfFirst roster.now (count + 1)) }
+{
+    first_have_image();
+    let modules = roster.modules();
+    before.extended(alloc, &modules[..count], &modules[count])
 }

@@ -6,7 +6,7 @@
 //! a policy exactly where that policy allows the pair, whatever slot it is; the cells at a policy are those of the
 //! modules that it finds loaded, with what their names mean among these; there is a set of each for each policy from 0
 //! to the one in force, in order; the code has the words of all loaded modules at their places, and 0 elsewhere;
-//! modules to which a journal leads came one with each policy. Only tested: nothing. Open: that memory suffices.
+//! modules to which a journal leads came one with each policy; which of them were there from the start. Only tested: nothing. Open: that memory suffices.
 #![tactic(auto)]
 
 mod cells;
@@ -14,7 +14,9 @@ mod code;
 mod first;
 mod labels;
 pub mod laws;
+mod start;
 
 pub use cells::policy_cells;
 pub use code::run_code;
 pub use labels::policy_labels;
+pub use start::modules_at_start;

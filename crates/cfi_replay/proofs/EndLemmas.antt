@@ -1,18 +1,21 @@
 -- To what the units of a part come, and what it says of the end.
 use Rattle.std.proofs.Common.{◌≡◌, ◌≢◌, ℕ, List, None, refl, sym, subst}
+use Rattle.cfi_aux.specs.declared.placed.Placed.{Placed}
+use Rattle.cfi_model.specs.Plain.{PlainState, plain_opened}
 use Rattle.cfi_model.specs.State.{State, opened}
 use Rattle.cfi_plan.specs.declared.plan.Plan.{Plan}
 use Rattle.cfi_policy.specs.Code.{IsCodeOf}
 use Rattle.cfi_report.specs.declared.report.GuestPart.{GuestPart}
+use Rattle.cfi_unit.specs.declared.log.Log.{Log}
 use Rattle.cfi_valid.proofs.CodeLemmas.{code_once}
 use Rattle.cfi_valid.proofs.EntryLemmas.{begins_once}
 use Rattle.cfi_valid.proofs.ValidLemmas.{comes_once}
 use Rattle.cfi_valid.specs.Course.{Course}
-use Rattle.cfi_valid.specs.Guests.{GuestBegins}
-use Rattle.cfi_valid.specs.Loaded.{LoadedModule, placed_modules, start_fills, Filled}
+use Rattle.cfi_valid.specs.Guests.{EntersIn, GuestBegins}
+use Rattle.cfi_valid.specs.Loaded.{LoadedModule, loaded_by, placed_modules, start_fills, Filled}
 use Rattle.cfi_valid.specs.Parts.{ComesTo, HasEndedReplay}
 use Rattle.cfi_valid.specs.Replay.{Replays}
-use Rattle.cfi_replay.specs.Setting.{ComesIn, IsCourseIn, IsSetting, loaded_in}
+use Rattle.cfi_replay.specs.Setting.{ComesIn, ComesNowhere, IsCourseIn, IsSetting, loaded_in}
 use Rattle.cfi_replay.specs.declared.setting.Setting.{Setting}
 use Rattle.cfi_replay.specs.inner.Ended.{HasEnd}
 use Rattle.cfi_replay.specs.inner.Follows.{HasReplayed}
@@ -78,3 +81,28 @@ module _ (s : Setting) (is : IsSetting s) (part : GuestPart) where
         (opened part.number comes.address (start_fills Filled (loaded_in s))) last) code
         (subst (λ (ls : List LoadedModule). Replays Filled comes.code ls part.log part.units
         (opened part.number comes.address (start_fills Filled ls)) last) in_it.loaded_is comes.replay))
+
+  -- a guest begins where the plan enters the start modules
+  pub begins_at : (ms : List Placed) (name : List ℕ) (address : ℕ) → ms ≡ placed_modules (loaded_by 0 (loaded_in s))
+      → name ≡ part.entry → EntersIn s.plan.now ms name address
+      → GuestBegins s.plan.now (loaded_in s) part.entry address
+  begins_at ms name address starts named enters =
+      subst (λ (ps : List Placed). EntersIn s.plan.now ps part.entry address) starts
+      (subst (λ (n : List ℕ). EntersIn s.plan.now ms n address) named enters)
+
+  -- and from there the machine that was opened follows the log
+  module _ (address : ℕ) (begins : GuestBegins s.plan.now (loaded_in s) part.entry address) (log : List Log)
+      (log_is : log ≡ part.log) (m : PlainState)
+      (opened_is : m ≡ plain_opened part.number address (start_fills Filled (loaded_in s))) where
+    pub followed : (last : State) → HasReplayed s log part.units m.state last → ComesIn s part last
+    followed last replay =
+        comes_in address begins last
+        (subst (λ (st : PlainState). HasReplayed s part.log part.units st.state last) opened_is
+        (subst (λ (l : List Log). HasReplayed s l part.units m.state last) log_is replay))
+
+    pub unfollowed : ((last : State) → ¬ HasReplayed s log part.units m.state last) → ComesNowhere s part
+    unfollowed none = λ course in_it last comes.
+        none last
+        (subst (λ (l : List Log). HasReplayed s l part.units m.state last) (sym log_is)
+        (subst (λ (st : PlainState). HasReplayed s part.log part.units st.state last) (sym opened_is)
+        (replay_there course in_it last comes address begins)))

@@ -8,7 +8,7 @@ use Rattle.std.proofs.lemmas.List.Elements.{All-drop, All-take}
 use Rattle.cfi_aux.specs.declared.placed.Placed.{Placed}
 use Rattle.cfi_graph.specs.Named.{entry_among}
 use Rattle.cfi_labels.proofs.CellLemmas.{cells_first}
-use Rattle.cfi_labels.proofs.LoadedLemmas.{come_first, places_all, places_first, rises, starts_count}
+use Rattle.cfi_labels.proofs.LoadedLemmas.{come_first, places_all, rises, start_places, starts_count}
 use Rattle.cfi_labels.specs.Labels.{ComeInOrder}
 use Rattle.cfi_ledger.proofs.SuffixLemmas.{Rise, AllUpTo, came_between, later_loaded}
 use Rattle.cfi_ledger.specs.Roster.{Roster, loaded_in_roster}
@@ -20,7 +20,6 @@ use Rattle.cfi_modules.specs.Series.{IsSeries}
 use Rattle.cfi_valid.specs.Loaded.{LoadedModule, loaded_by, placed_modules, cells_at, data_between, start_data}
 use Rattle.cfi_replay.specs.Setting.{IsSetting, loaded_in}
 use Rattle.cfi_replay.specs.declared.setting.Setting.{Setting}
-use Rattle.cfi_replay.specs.inner.Fills.{starts_in}
 
 -- those between two policies are among those up to the second
 and_false : (b : Bool) → b && false ≡ false
@@ -73,11 +72,8 @@ module _ (loaded : List LoadedModule) (last : ℕ) (come : ComeInOrder loaded la
 
 module _ (r : Roster) (lined : length r.lines ≡ length r.placed) (last : ℕ)
     (come : ComeInOrder (loaded_in_roster r) last) where
-  start_places : placed_modules (loaded_by 0 (loaded_in_roster r)) ≡ take come.starts r.placed
-  start_places = places_first r lined last come 0 ∙ ap (λ (n : ℕ). take n r.placed) (omega arith)
-
   start_data_first : start_data (loaded_in_roster r) ≡ take come.starts (fills_of r.placed)
-  start_data_first = ap fills_of start_places ∙ sym (take-map fill_of come.starts r.placed)
+  start_data_first = ap fills_of (start_places r lined last come) ∙ sym (take-map fill_of come.starts r.placed)
 
   data_part : (above upto : ℕ) → data_between above upto (loaded_in_roster r)
       ≡ drop (come.starts + above) (take (come.starts + upto) (fills_of r.placed))
@@ -97,25 +93,19 @@ module _ (s : Setting) (is : IsSetting s) where
   abbrev r : Roster
   r = s.roster.now
 
-  pub starts_are : starts_in s ≡ is.order.starts
-  starts_are = omega (arith, starts_count r is.roster.many s.force is.order)
+  -- as many as were there from the start
+  starts_are : (n : ℕ) → n + s.force ≡ length r.placed → n ≡ is.order.starts
+  starts_are n count = omega (arith, count, starts_count r is.roster.many s.force is.order)
 
-  pub starts_within : (upto : ℕ) → upto ≤ s.force → starts_in s + upto ≤ length r.placed
-  starts_within upto most = omega (arith, starts_count r is.roster.many s.force is.order, most)
+  pub start_data_are : (n : ℕ) → n + s.force ≡ length r.placed → take n (fills_of r.placed) ≡ start_data (loaded_in s)
+  start_data_are n count =
+      ap (λ (k : ℕ). take k (fills_of r.placed)) (starts_are n count)
+      ∙ sym (start_data_first r is.roster.many s.force is.order)
 
-  pub start_modules_are : take (starts_in s) r.placed ≡ placed_modules (loaded_by 0 (loaded_in s))
-  start_modules_are =
-      ap (λ (n : ℕ). take n r.placed) starts_are ∙ sym (start_places r is.roster.many s.force is.order)
-
-  pub start_data_are : take (starts_in s) (fills_of r.placed) ≡ start_data (loaded_in s)
-  start_data_are =
-      ap (λ (n : ℕ). take n (fills_of r.placed)) starts_are ∙ sym (start_data_first r is.roster.many s.force is.order)
-
-  pub data_are : (above upto : ℕ)
-      → drop (starts_in s + above) (take (starts_in s + upto) (fills_of r.placed))
-      ≡ data_between above upto (loaded_in s)
-  data_are above upto =
-      ap (λ (n : ℕ). drop (n + above) (take (n + upto) (fills_of r.placed))) starts_are
+  pub data_are : (n above upto : ℕ) → n + s.force ≡ length r.placed
+      → drop (n + above) (take (n + upto) (fills_of r.placed)) ≡ data_between above upto (loaded_in s)
+  data_are n above upto count =
+      ap (λ (k : ℕ). drop (k + above) (take (k + upto) (fills_of r.placed))) (starts_are n count)
       ∙ sym (data_part r is.roster.many s.force is.order above upto)
 
   pub part_lies : IsSeries r.code_words r.placed → (from to : ℕ)

@@ -28,8 +28,8 @@ use Rattle.cfi_replay.specs.Setting.{CanReplay, loaded_in}
 use Rattle.cfi_replay.specs.declared.cursor.Cursor.{Cursor}
 use Rattle.cfi_replay.specs.declared.setting.Setting.{Setting}
 use Rattle.cfi_replay.specs.inner.Cursor.{HasAnswered, HasMark, IsSettled, marked}
-use Rattle.cfi_replay.specs.inner.Follows.{Follows, HasAnsweredBy, HasGone, IsNoAnswer, IsOpenEntry, given_to, policy_by, reply_by}
-use Rattle.cfi_replay.proofs.GoLemmas.{left_of, next_of}
+use Rattle.cfi_replay.specs.inner.Follows.{Asks, Follows, HasAnsweredBy, HasGone, HasTurned, IsNoAnswer, IsOpenEntry, reach_by, reply_by}
+use Rattle.cfi_replay.proofs.GoLemmas.{left_of, next_of, turn_asks, turn_waits}
 use Rattle.cfi_replay.proofs.PickLemmas.{given_push}
 use Rattle.cfi_replay.proofs.PlaceLemmas.{IsLeft, answered_left, passed_rises, single_by}
 use Rattle.cfi_replay.proofs.RestLemmas.{drop_entry}
@@ -66,7 +66,7 @@ no_reply loaded s reply (Some (Cause number cause)) none is = none
 no_reply loaded s reply None none is = is
 
 module _ (s : Setting) (log : List Log) (cursor : Cursor) where
-  pub no_open : (old : State) → (unit : CodeUnit) → Stands s.code.now old.pc unit → asks_of unit old ≡ true
+  no_open : (old : State) → (unit : CodeUnit) → Stands s.code.now old.pc unit → asks_of unit old ≡ true
       → IsNoAnswer (slice_get log cursor.at) → next_in log old ≡ single_by (slice_get log cursor.at)
       → (last : State) → IsReplayed Filled s.code.now (loaded_in s) log old last → ⊥
   no_open old unit stands asking none next last r =
@@ -89,11 +89,11 @@ module _ (s : Setting) (log : List Log) (cursor : Cursor) (can : CanReplay s log
         (state_is : new.state ≡ going_to (after 4 old.state.pc) 1 (served Opens reply old.state))
         (log_is : new.state.log ≡ old.state.log ++ logged ∷ []) (one : singles_of logged ≡ logged ∷ [])
         (single : singles_of entry ≡ entry ∷ []) (used : cursor.used ≡ 0)
-        (has : HasAnswered log new.state.log (policy_by cursor entry) (given_to cursor entry) cursor after_it)
-        (policy_rises : policy_after cursor.policy entry ≡ policy_by cursor entry)
-        (policy_logs : policy_after (last_policy old.state.log) logged ≡ policy_by cursor entry)
-        (given_logs : given_after (given_by old.state.log) logged ≡ given_to cursor entry)
-        (given_most : given_to cursor entry ≤ policy_by cursor entry) where
+        (has : HasAnswered log new.state.log (reach_by cursor entry) cursor after_it)
+        (policy_rises : policy_after cursor.policy entry ≡ (reach_by cursor entry).policy)
+        (policy_logs : policy_after (last_policy old.state.log) logged ≡ (reach_by cursor entry).policy)
+        (given_logs : given_after (given_by old.state.log) logged ≡ (reach_by cursor entry).given)
+        (given_most : (reach_by cursor entry).given ≤ (reach_by cursor entry).policy) where
       unit_gone : IsReplayed Filled s.code.now (loaded_in s) log old.state new.state
       unit_gone =
           let next_is : next_in log old.state ≡ Some entry =
@@ -117,19 +117,19 @@ module _ (s : Setting) (log : List Log) (cursor : Cursor) (can : CanReplay s log
             is = effect_is;
           }
 
-      gone : HasGone s log cursor old after_it new
+      gone : HasGone s log old after_it new
       gone =
           let mid_left = answered_left log (length (singles old.state.log)) cursor entry next
           (left_of s log cursor old.state follows.at) used single has.mid has.passed in
           let noted : Cursor =
           marked new.state.log
-          (record has.mid { policy = policy_by cursor entry; given = given_to cursor entry }) in
+          (record has.mid { policy = (reach_by cursor entry).policy; given = (reach_by cursor entry).given }) in
           let noted_left : IsLeft log (length (singles old.state.log) + 1) noted =
           record { within = mid_left.within; rest = mid_left.rest; settled = mid_left.settled } in
           let left = subst (IsLeft log (length (singles old.state.log) + 1)) (sym has.is) noted_left in
           let noted_mark : HasMark new.state.log noted = record { entries = refl; picks = refl } in
-          let policy_is : after_it.policy ≡ policy_by cursor entry = ap (λ (x : Cursor). x.policy) has.is in
-          let given_is : after_it.given ≡ given_to cursor entry = ap (λ (x : Cursor). x.given) has.is in
+          let policy_is : after_it.policy ≡ (reach_by cursor entry).policy = ap (λ (x : Cursor). x.policy) has.is in
+          let given_is : after_it.given ≡ (reach_by cursor entry).given = ap (λ (x : Cursor). x.given) has.is in
           let many : length (singles new.state.log) ≡ length (singles old.state.log) + 1 =
           ap (λ (l : List Log). length (singles l)) log_is
           ∙ ap length (singles_more old.state.log logged)
@@ -155,7 +155,7 @@ module _ (s : Setting) (log : List Log) (cursor : Cursor) (can : CanReplay s log
 
     open_gone : (number address policy : ℕ) → slice_get log cursor.at ≡ Some (Open number address policy)
         → new ≡ answered (reply_by s cursor (Open number address policy)) (record old { waits = true })
-        → HasAnswered log new.state.log policy policy cursor after_it → HasGone s log cursor old after_it new
+        → HasAnswered log new.state.log (reach_by cursor (Open number address policy)) cursor after_it → HasGone s log old after_it new
     open_gone number address policy next is has =
         let entry : Log = Open number address policy in
         let fills : fills_between Filled cursor.given policy (loaded_in s)
@@ -174,8 +174,8 @@ module _ (s : Setting) (log : List Log) (cursor : Cursor) (can : CanReplay s log
 
     cause_gone : (number cause : ℕ) → slice_get log cursor.at ≡ Some (Cause number cause)
         → new ≡ answered (reply_by s cursor (Cause number cause)) (record old { waits = true })
-        → HasAnswered log new.state.log cursor.policy cursor.given cursor after_it
-        → HasGone s log cursor old after_it new
+        → HasAnswered log new.state.log (reach_by cursor (Cause number cause)) cursor after_it
+        → HasGone s log old after_it new
     cause_gone number cause next is has =
         let entry : Log = Cause number cause in
         let told = can.causes cursor.at number cause next in
@@ -196,17 +196,32 @@ module _ (s : Setting) (log : List Log) (cursor : Cursor) (can : CanReplay s log
 
     entry_gone : (entry : Log) → slice_get log cursor.at ≡ Some entry → IsOpenEntry entry
         → new ≡ answered (reply_by s cursor entry) (record old { waits = true })
-        → HasAnswered log new.state.log (policy_by cursor entry) (given_to cursor entry) cursor after_it
-        → HasGone s log cursor old after_it new
+        → HasAnswered log new.state.log (reach_by cursor entry) cursor after_it
+        → HasGone s log old after_it new
     entry_gone (Pick policy count) next answers is has = absurd answers
     entry_gone (Open number address policy) next answers is has = open_gone number address policy next is has
     entry_gone (Cause number cause) next answers is has = cause_gone number cause next is has
 
--- the machine that asks has the answer of the next entry
-pub answer_gone : (s : Setting) (log : List Log) (cursor : Cursor) → CanReplay s log → (old mid : PlainState)
-    → Follows s log cursor old → old.state.stop ≡ None → mid ≡ record old { waits = true } → (unit : CodeUnit)
-    → Stands s.code.now old.state.pc unit → asks_of unit old.state ≡ true → (after_it : Cursor) (new : PlainState)
-    → HasAnsweredBy s log cursor mid after_it new → HasGone s log cursor old after_it new
-answer_gone s log cursor can old mid follows going mid_is unit stands asking after_it new by =
-    entry_gone s log cursor can old follows going unit stands (asks_by unit old.state asking) after_it new by.entry by.next
-    by.answers (by.is ∙ ap (answered (reply_by s cursor by.entry)) mid_is) by.cursor
+-- ---- the machine that asks
+
+module _ {s : Setting} {log : List Log} {cursor : Cursor} {old mid : PlainState} (t : HasTurned s log cursor old mid)
+    (waits : mid.waits ≡ true) where
+  pub asks_now : Asks s log cursor mid
+  asks_now =
+      subst (Asks s log cursor) (sym (turn_waits t waits))
+      (record { waiting = refl; at = t.follows.at; rises = t.follows.rises })
+
+  -- it has the answer of the next entry
+  pub answer_gone : CanReplay s log → (after_it : Cursor) (new : PlainState)
+      → HasAnsweredBy s log (record { cursor = cursor; machine = mid }) (record { cursor = after_it; machine = new }) → HasGone s log old after_it new
+  answer_gone can after_it new by =
+      entry_gone s log cursor can old t.follows t.going t.turn.unit t.turn.stands
+      (asks_by t.turn.unit old.state (turn_asks t waits)) after_it new by.entry by.next by.answers
+      (by.is ∙ ap (answered (reply_by s cursor by.entry)) (turn_waits t waits)) by.cursor
+
+  -- which answers none
+  pub answer_stuck : IsNoAnswer (slice_get log cursor.at) → (last : State)
+      → IsReplayed Filled s.code.now (loaded_in s) log old.state last → ⊥
+  answer_stuck none last r =
+      no_open s log cursor old.state t.turn.unit t.turn.stands (turn_asks t waits) none
+      (next_of s log cursor old.state t.follows.at) last r

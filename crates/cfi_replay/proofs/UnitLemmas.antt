@@ -1,16 +1,14 @@
 -- One unit of a machine that follows a log.
-use Rattle.std.proofs.Common.{◌≡◌, ◌≢◌, ℕ, Bool, true, false, cond, List, Option, Some, None, refl, sym, ap, subst, ◌∙◌}
+use Rattle.std.proofs.Common.{◌≡◌, ℕ, Bool, true, false, cond, List, Option, Some, None, refl, sym, ap, subst, ◌∙◌}
 use Rattle.std.proofs.lemmas.Bool.{false≢true}
-use Rattle.cfi_model.specs.Effect.{effect, is_in_code, asks}
+use Rattle.cfi_model.specs.Effect.{effect, is_in_code}
 use Rattle.cfi_model.specs.Log.{picked}
-use Rattle.cfi_model.specs.Plain.{PlainState, IsTurn, asks_of, ended_by, has_one_class, step_of}
-use Rattle.cfi_model.specs.Service.{Reply, Service, Ends, Puts, Quiets, Opens, Unknown, argument, asked, served_log, service_of, too_many}
+use Rattle.cfi_model.specs.Plain.{PlainState, IsTurn, asks_of, has_one_class}
+use Rattle.cfi_model.specs.Service.{Reply, Service, Ends, Puts, Quiets, Opens, Unknown, asked, served_log, service_of, too_many}
 use Rattle.cfi_model.specs.State.{State, register, displaced}
 use Rattle.cfi_model.specs.declared.step.PlainStep.{PlainStep}
-use Rattle.cfi_model.specs.declared.step.PlainStep.TheVariants.{Asks}
 use Rattle.cfi_unit.specs.declared.log.Log.{Log}
 use Rattle.cfi_unit.specs.declared.log.Log.TheVariants.{Pick, Open, Cause}
-use Rattle.cfi_unit.specs.declared.log.Stop.{Stop}
 use Rattle.cfi_unit.specs.declared.unit.Unit.{Unit as CodeUnit}
 use Rattle.cfi_unit.specs.declared.unit.Unit.TheVariants as units
 use Rattle.cfi_valid.specs.Loaded.{LoadedModule, Filled}
@@ -20,10 +18,6 @@ use Rattle.cfi_labels.specs.Labels.{AreLabelsAt}
 use Rattle.cfi_replay.proofs.PlaceLemmas.{single_by}
 
 -- ---- how a unit ended
-
-never_asks : (stop : Option Stop) (n : ℕ) → ended_by stop ≢ Asks n
-never_asks None n = λ same. absurd (cc)
-never_asks (Some stop) n = λ same. absurd (cc)
 
 module _ (code : List ℕ) (policy : ℕ) (allows : ℕ → ℕ → Bool) (old new : PlainState) (step : PlainStep)
     (turn : IsTurn code policy allows old new step) (idle : old.waits ≡ false) where
@@ -40,27 +34,13 @@ module _ (code : List ℕ) (policy : ℕ) (allows : ℕ → ℕ → Bool) (old n
       turn.is ∙ ap (λ (b : Bool). cond b (record old { waits = true })
       (record old { state = effect turn.unit policy allows too_many old.state })) is
 
-  asked_by : (b : Bool) → asks_of turn.unit old.state ≡ b → (n : ℕ) → step ≡ Asks n
-      → asks_of turn.unit old.state ≡ true
-  asked_by true is n asks = is
-  asked_by false is n asks =
-      let stop = (effect turn.unit policy allows too_many old.state).stop in
-      let ended : step ≡ ended_by stop =
-      turn.step_is ∙ ap step_of (as_ended is)
-      ∙ ap (λ (b : Bool). cond b (Asks (argument (effect turn.unit policy allows too_many old.state))) (ended_by stop))
-      idle in
-      absurd (never_asks stop n (sym ended ∙ asks))
+  waits_by : (b : Bool) → asks_of turn.unit old.state ≡ b → new.waits ≡ b
+  waits_by true is = ap (λ (m : PlainState). m.waits) (as_asked is)
+  waits_by false is = ap (λ (m : PlainState). m.waits) (as_ended is) ∙ idle
 
-  pub asked_turn : (n : ℕ) → step ≡ Asks n → asks_of turn.unit old.state ≡ true
-  asked_turn n asks = asked_by (asks_of turn.unit old.state) refl n asks
-
-  ended_if : (b : Bool) → asks_of turn.unit old.state ≡ b → ((n : ℕ) → step ≢ Asks n)
-      → asks_of turn.unit old.state ≡ false
-  ended_if false is none = is
-  ended_if true is none = absurd (none (argument old.state) (turn.step_is ∙ ap step_of (as_asked is)))
-
-  pub ended_turn : ((n : ℕ) → step ≢ Asks n) → asks_of turn.unit old.state ≡ false
-  ended_turn none = ended_if (asks_of turn.unit old.state) refl none
+  -- it waits where it asks
+  pub waits_is : new.waits ≡ asks_of turn.unit old.state
+  waits_is = waits_by (asks_of turn.unit old.state) refl
 
 -- ---- what it logs
 

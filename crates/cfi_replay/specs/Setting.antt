@@ -20,8 +20,8 @@ use Rattle.cfi_replay.specs.declared.setting.Setting.{Setting}
 abbrev pub loaded_in : Setting → List LoadedModule
 loaded_in s = loaded_in_roster s.roster.now
 
--- the roster is one of the plan, one module came with each policy, the code is that of all, and the labels and the cells
--- are those of the policies
+-- the roster is one of the plan, one module came with each policy, the code is that of all, and the labels and the
+-- cells are those of the policies
 pub record IsSetting (s : Setting) : Type 0 where
   pub roster : IsRosterOf s.plan.now s.roster.now
   pub order : ComeInOrder (loaded_in s) s.force

@@ -1,5 +1,4 @@
 -- What only private clauses cite.
 pub mod Cursor
-pub mod Fills
 pub mod Follows
 pub mod Ended

@@ -135,7 +135,8 @@ impl Cursor {
     /// Goes on behind an open that was answered by the next entry, under this policy, with data up to this one.
     pub(crate) fn answered(&mut self, log: &[Log], logged: &[Log], policy: u32, given: u32)
         requires { self.old.at < length log.now }
-        ensures { HasAnswered log.now logged.now policy given self.old self.new }
+        ensures { HasAnswered log.now logged.now
+            (record { policy = policy; given = given }) self.old self.new }
     {
         self.pass(log);
         self.policy = policy;

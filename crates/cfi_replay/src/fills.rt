@@ -1,26 +1,18 @@
 //! The data that comes with policies, and the cells of late imports at each.
 
-ghost use Rattle.std.specs.Prelude.{◌≡◌, ◌<◌, ◌≤◌, ◌^◌, drop, length, take};
+ghost use Rattle.std.specs.Prelude.{◌≡◌, ◌≤◌, drop, length, take};
 ghost use Rattle.std.specs.List.{All};
 ghost use Rattle.cfi_model.specs.Data.{LiesInData};
 ghost use Rattle.cfi_modules.specs.Entry.{HasAddresses};
 ghost use Rattle.cfi_modules.specs.Series.{IsSeries};
 ghost use Rattle.cfi_replay.specs.Setting.{IsSetting, loaded_in};
-ghost use Rattle.cfi_replay.specs.inner.Fills.{starts_in};
 ghost use Rattle.cfi_valid.specs.Loaded.{cells_at, data_between, start_data, placed_modules, loaded_by};
 
 use crate::setting::Setting;
 use cfi_aux::Placed;
+use cfi_labels::modules_at_start;
 use cfi_modules::loaded_have_entries;
 use cfi_unit::Fill;
-
-// The first modules.
-fn first_modules(modules: &[Placed], count: usize) -> &[Placed]
-    requires { count ≤ length modules.now }
-    ensures { result.now ≡ take count modules.now }
-{
-    &modules[..count]
-}
 
 // The fills from one to another.
 fn fills_in(fills: &[Fill], from: usize, to: usize) -> &[Fill]
@@ -33,16 +25,6 @@ fn fills_in(fills: &[Fill], from: usize, to: usize) -> &[Fill]
 }
 
 impl Setting<'_> {
-    // How many of the loaded modules were there from the start: each of the others came with a policy of its own.
-    fn starts(&self) -> usize
-        requires { IsSetting self.now }
-        ensures is { result ≡ starts_in self.now }
-        ensures small { result < 2 ^ 63 }
-        ensures series { IsSeries self.now.roster.now.code_words self.now.roster.now.placed }
-    {
-        self.roster.modules().len() - self.force as usize
-    }
-
     /// The start modules, as they are placed.
     pub(crate) fn start_modules(&self) -> &[Placed]
         requires { IsSetting self.now }
@@ -50,8 +32,7 @@ impl Setting<'_> {
         ensures addresses { All HasAddresses result.now }
     {
         loaded_have_entries();
-        let modules = self.roster.modules();
-        first_modules(modules, self.starts())
+        modules_at_start(self.roster, self.force)
     }
 
     /// Their data.
@@ -61,8 +42,9 @@ impl Setting<'_> {
         ensures lies { All LiesInData result.now }
         ensures series { IsSeries self.now.roster.now.code_words self.now.roster.now.placed }
     {
+        let starts = modules_at_start(self.roster, self.force).len();
         let data = self.roster.data();
-        fills_in(data, 0, self.starts())
+        fills_in(data, 0, starts)
     }
 
     /// The data that came above one policy and up to another.
@@ -74,7 +56,7 @@ impl Setting<'_> {
         ensures lies { All LiesInData result.now }
         ensures series { IsSeries self.now.roster.now.code_words self.now.roster.now.placed }
     {
-        let starts = self.starts();
+        let starts = modules_at_start(self.roster, self.force).len();
         let data = self.roster.data();
         fills_in(data, starts + above as usize, starts + upto as usize)
     }

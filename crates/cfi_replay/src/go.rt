@@ -4,20 +4,22 @@ ghost use Rattle.std.specs.Prelude.{◌≡◌, ◌≢◌, ◌+◌, ◌<◌, ◌�
 ghost use Rattle.cfi_model.specs.Log.{last_policy};
 ghost use Rattle.cfi_model.specs.Plain.{answered};
 ghost use Rattle.cfi_model.specs.Service.{reply_of};
+ghost use Rattle.cfi_model.specs.Shows.{Stands};
 ghost use Rattle.cfi_model.specs.State.{State};
 ghost use Rattle.cfi_replay.specs.Setting.{CanReplay, IsSetting, loaded_in};
-ghost use Rattle.cfi_replay.specs.inner.Follows.{policy_next, Asks, Follows, HasAnsweredBy, HasGone, IsNoAnswer};
+ghost use Rattle.cfi_replay.specs.inner.Follows.{next_policy, Asks, Follows, HasAnsweredBy, HasGone, HasTurned, IsNoAnswer};
+ghost use Rattle.cfi_unit.specs.declared.unit.Unit.{Unit as CodeUnit};
 ghost use Rattle.cfi_valid.specs.Loaded.{fills_between, Filled};
 ghost use Rattle.cfi_valid.specs.Replay.{IsReplayed};
 
 use crate::cursor::Cursor;
 use crate::setting::Setting;
-use cfi_model::{Answer, Plain, PlainStep};
+use cfi_model::{Answer, Plain};
 use cfi_unit::Log;
 
 // The policy of the next check: that of the next pick, or else the last one that was logged.
 fn next_policy(log: &[Log], cursor: &Cursor) -> u32
-    ensures { result ≡ policy_next cursor.now.policy (slice_get log.now cursor.now.at) }
+    ensures { result ≡ next_policy cursor.now.policy (slice_get log.now cursor.now.at) }
 {
     match log.get(cursor.at) {
         Some(Log::Pick { policy, .. }) => *policy,
@@ -69,7 +71,9 @@ impl Setting<'_> {
         requires setting { IsSetting self.now }
         requires can { CanReplay self.now log.now }
         requires asks { Asks self.now log.now cursor.old machine.old }
-        ensures yes { IsTrue result → HasAnsweredBy self.now log.now cursor.old machine.old cursor.new machine.new }
+        ensures yes { IsTrue result → HasAnsweredBy self.now log.now
+            (record { cursor = cursor.old; machine = machine.old })
+            (record { cursor = cursor.new; machine = machine.new }) }
         ensures no { result ≡ false → IsNoAnswer (slice_get log.now cursor.old.at) }
     {
         match next_entry(log, cursor) {
@@ -99,6 +103,22 @@ impl Setting<'_> {
         true
     }
 
+    // Runs the unit at which the machine stands, under the policy of the next check. False where none begins there.
+    fn turn(&self, log: &[Log], machine: &mut Plain, cursor: &Cursor) -> bool
+        requires setting { IsSetting self.now }
+        requires follows { Follows self.now log.now cursor.now machine.old }
+        requires going { machine.old.state.stop ≡ None }
+        requires few { machine.old.state.units + 1 < 2 ^ 32 }
+        ensures yes { IsTrue result →
+            HasTurned self.now log.now cursor.now machine.old machine.new }
+        ensures no { result ≡ false → (unit : CodeUnit) →
+            ¬ Stands self.now.code.now machine.old.state.pc unit }
+    {
+        let policy = next_policy(log, cursor);
+        let labels = &self.labels[policy as usize];
+        machine.turn(self.code, policy, labels).is_some()
+    }
+
     /// Runs one unit of a replay over this log. False where there is none.
     pub(crate) fn go(&self, log: &[Log], machine: &mut Plain, cursor: &mut Cursor) -> bool
         requires setting { IsSetting self.now }
@@ -106,7 +126,7 @@ impl Setting<'_> {
         requires follows { Follows self.now log.now cursor.old machine.old }
         requires few { machine.old.state.units + 1 < 2 ^ 32 }
         ensures went { IsTrue result →
-            HasGone self.now log.now cursor.old machine.old cursor.new machine.new }
+            HasGone self.now log.now machine.old cursor.new machine.new }
         ensures stuck { result ≡ false → (new : State) →
             ¬ IsReplayed Filled self.now.code.now (loaded_in self.now) log.now
             machine.old.state new }
@@ -114,13 +134,12 @@ impl Setting<'_> {
         if has_stopped(machine) {
             return false;
         }
-        let policy = next_policy(log, cursor);
-        let labels = &self.labels[policy as usize];
-        match machine.turn(self.code, policy, labels) {
-            Some(PlainStep::Asks(_)) => self.answer(log, machine, cursor),
-            Some(PlainStep::Went) => cursor.keep_up(log, machine.log()),
-            Some(PlainStep::Stopped(_)) => cursor.keep_up(log, machine.log()),
-            None => false,
+        if !self.turn(log, machine, cursor) {
+            return false;
         }
+        if machine.waits() {
+            return self.answer(log, machine, cursor);
+        }
+        cursor.keep_up(log, machine.log())
     }
 }

@@ -37,7 +37,8 @@ fn follow(setting: &Setting<'_>, log: &[Log], start: Plain, units: u32) -> Optio
     requires can { CanReplay setting.now log.now }
     requires starts { IsStart start }
     ensures some { IfSome result (λ m. HasReplayed setting.now log.now units start.state m.state) }
-    ensures none { IfNone result ((last : State) → ¬ HasReplayed setting.now log.now units start.state last) }
+    ensures none { IfNone result ((last : State) →
+        ¬ HasReplayed setting.now log.now units start.state last) }
 {
     let mut machine = start;
     let mut cursor = Cursor::open(log);

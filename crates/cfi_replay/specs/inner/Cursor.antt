@@ -62,8 +62,13 @@ pub record HasPicked (log logged : List Log) (old new : Cursor) : Type 0 where
 abbrev pub HasNoPick : List Log → Cursor → Type 0
 HasNoPick log cursor = (policy count : ℕ) → slice_get log cursor.at ≢ Some (Pick policy count)
 
--- an open was answered by the next entry
-pub record HasAnswered (log logged : List Log) (policy given : ℕ) (old new : Cursor) : Type 0 where
+-- how far an answer brings a guest: the last policy that was logged, and the one up to which it has been given data
+pub record Reach : Type 0 where
+  pub policy : ℕ
+  pub given : ℕ
+
+-- an open was answered by the next entry, which brings the guest so far
+pub record HasAnswered (log logged : List Log) (reach : Reach) (old new : Cursor) : Type 0 where
   pub mid : Cursor
   pub passed : HasPassed log old mid
-  pub is : new ≡ marked logged (record mid { policy = policy; given = given })
+  pub is : new ≡ marked logged (record mid { policy = reach.policy; given = reach.given })

@@ -2,18 +2,21 @@
 use Rattle.std.specs.Prelude.{◌≡◌, ℕ, ◌≤◌, false, true, List, [], length, drop, slice_get, Option, Some, None, ⊤}
 use Rattle.std.specs.List.{fold}
 use Rattle.cfi_model.specs.Log.{last_policy, policy_after}
-use Rattle.cfi_model.specs.Plain.{PlainState, answered}
+use Rattle.cfi_model.specs.Plain.{IsTurn, PlainState, answered, has_one_class}
 use Rattle.cfi_model.specs.Service.{Reply, reply_of}
 use Rattle.cfi_model.specs.State.{State}
+use Rattle.cfi_model.specs.declared.step.PlainStep.{PlainStep}
 use Rattle.cfi_unit.specs.declared.log.Log.{Log}
 use Rattle.cfi_unit.specs.declared.log.Log.TheVariants.{Pick, Open, Cause}
 use Rattle.cfi_valid.specs.Loaded.{fills_between, Filled}
 use Rattle.cfi_valid.specs.Log.{NeverFall}
 use Rattle.cfi_valid.specs.Replay.{singles, given_by, IsReplayed, Replays}
+use Rattle.cfi_word.specs.declared.lists.Labels.{Labels}
+use Rattle.cfi_labels.specs.Labels.{AreLabelsAt}
 use Rattle.cfi_replay.specs.Setting.{loaded_in}
 use Rattle.cfi_replay.specs.declared.cursor.Cursor.{Cursor}
 use Rattle.cfi_replay.specs.declared.setting.Setting.{Setting}
-use Rattle.cfi_replay.specs.inner.Cursor.{HasAnswered, HasMark, IsSettled}
+use Rattle.cfi_replay.specs.inner.Cursor.{HasAnswered, HasMark, IsSettled, Reach}
 
 -- ---- where the machine is in the log
 
@@ -41,17 +44,28 @@ pub record Follows (s : Setting) (log : List Log) (cursor : Cursor) (m : PlainSt
 -- ---- one unit
 
 -- the policy of the next check
-abbrev pub policy_next : (policy : ℕ) → Option Log → ℕ
-policy_next policy (Some (Pick next count)) = next
-policy_next policy (Some (Open number address other)) = policy
-policy_next policy (Some (Cause number cause)) = policy
-policy_next policy None = policy
+abbrev pub next_policy : (policy : ℕ) → Option Log → ℕ
+next_policy policy (Some (Pick next count)) = next
+next_policy policy (Some (Open number address other)) = policy
+next_policy policy (Some (Cause number cause)) = policy
+next_policy policy None = policy
+
+-- a machine that follows the log has run the unit at which it stood, under the policy of the next check
+pub record HasTurned (s : Setting) (log : List Log) (cursor : Cursor) (old new : PlainState) : Type 0 where
+  pub going : old.state.stop ≡ None
+  pub follows : Follows s log cursor old
+  pub policy : ℕ
+  pub policy_is : policy ≡ next_policy cursor.policy (slice_get log cursor.at)
+  pub labels : Labels
+  pub labels_are : AreLabelsAt (loaded_in s) policy labels
+  pub step : PlainStep
+  pub turn : IsTurn s.code.now policy (has_one_class labels) old new step
 
 -- a unit is replayed, and the machine follows on
-pub record HasGone (s : Setting) (log : List Log) (old_cursor : Cursor) (old : PlainState) (new_cursor : Cursor)
-    (new : PlainState) : Type 0 where
+pub record HasGone (s : Setting) (log : List Log) (old : PlainState) (cursor : Cursor) (new : PlainState)
+    : Type 0 where
   pub unit : IsReplayed Filled s.code.now (loaded_in s) log old.state new.state
-  pub follows : Follows s log new_cursor new
+  pub follows : Follows s log cursor new
 
 -- ---- an open
 
@@ -68,16 +82,11 @@ reply_by s cursor (Open number address policy) =
     reply_of address 0 policy (fills_between Filled cursor.given policy (loaded_in s))
 reply_by s cursor (Cause number cause) = reply_of 0 cause cursor.policy []
 
--- the policy and the policy of data after it
-abbrev pub policy_by : Cursor → Log → ℕ
-policy_by cursor (Pick policy count) = cursor.policy
-policy_by cursor (Open number address policy) = policy
-policy_by cursor (Cause number cause) = cursor.policy
-
-abbrev pub given_to : Cursor → Log → ℕ
-given_to cursor (Pick policy count) = cursor.given
-given_to cursor (Open number address policy) = policy
-given_to cursor (Cause number cause) = cursor.given
+-- how far it brings the guest
+abbrev pub reach_by : Cursor → Log → Reach
+reach_by cursor (Pick policy count) = record { policy = cursor.policy; given = cursor.given }
+reach_by cursor (Open number address policy) = record { policy = policy; given = policy }
+reach_by cursor (Cause number cause) = record { policy = cursor.policy; given = cursor.given }
 
 -- the entry is that of an open
 abbrev pub IsOpenEntry : Log → Type 0
@@ -85,15 +94,18 @@ IsOpenEntry (Pick policy count) = ⊥
 IsOpenEntry (Open number address policy) = ⊤
 IsOpenEntry (Cause number cause) = ⊤
 
+-- a machine, and how far it has come in the log
+pub record Follower : Type 0 where
+  pub cursor : Cursor
+  pub machine : PlainState
+
 -- the next entry answers
-pub record HasAnsweredBy (s : Setting) (log : List Log) (old_cursor : Cursor) (old : PlainState) (new_cursor : Cursor)
-    (new : PlainState) : Type 0 where
+pub record HasAnsweredBy (s : Setting) (log : List Log) (old new : Follower) : Type 0 where
   pub entry : Log
-  pub next : slice_get log old_cursor.at ≡ Some entry
+  pub next : slice_get log old.cursor.at ≡ Some entry
   pub answers : IsOpenEntry entry
-  pub is : new ≡ answered (reply_by s old_cursor entry) old
-  pub cursor : HasAnswered log new.state.log (policy_by old_cursor entry) (given_to old_cursor entry)
-      old_cursor new_cursor
+  pub is : new.machine ≡ answered (reply_by s old.cursor entry) old.machine
+  pub cursor : HasAnswered log new.machine.state.log (reach_by old.cursor entry) old.cursor new.cursor
 
 -- it answers none
 abbrev pub IsNoAnswer : Option Log → Type 0

@@ -29,5 +29,5 @@ loop-count-preserved c =
     ∙ ap (λ (ms : List Placed). cells_of (take count ms) (take count ms)) c.modules-modules.ensures.value in
     subst (λ (sets : List (List Fill)). CellsSoFar r c.args.last (count + 1) sets)
     (sym {A = List (List Fill)} c.in_ok-push.ensures.items)
-    (cells_more r c.start_count-starts.ensures.lined c.args.last c.requires.order c.loop-count.sets.items count cells
+    (cells_more r c.modules_at_start-starts.ensures.lined c.args.last c.requires.order c.loop-count.sets.items count cells
     c.loop-count.invariant is)

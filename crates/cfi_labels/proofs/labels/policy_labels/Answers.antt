@@ -1,45 +1,52 @@
-use Rattle.std.proofs.Common.{◌≡◌, ℕ, ◌+◌, ◌≤◌, List, length, take, sym, ap, subst, arith}
-use Rattle.cfi_aux.specs.declared.placed.Placed.{Placed}
-use Rattle.cfi_modules.specs.Series.{IsSeries}
-use Rattle.cfi_word.specs.declared.lists.Labels.{Labels}
-use Rattle.cfi_labels.proofs.LabelLemmas.{LabelsSoFar, labels_more}
-use Rattle.cfi_labels.specs.inner.Sets.{IsSetOf}
+use Rattle.std.proofs.Common.{◌≡◌, ◌+◌, ◌≤◌, length, ap, arith}
+use Rattle.cfi_labels.proofs.LabelLemmas.{labels_first, labels_more}
 use Rattle.cfi_labels.proofs.labels.policy_labels.Goals as goal
 
-pub first_labels-requires-clause-series : goal.first_labels-requires-clause-series
-first_labels-requires-clause-series c =
-    let r = c.args.roster.now in
-    subst (λ (words : ℕ). IsSeries words c.modules-modules.result.now) (sym c.requires.layout)
-    (subst (λ (ms : List Placed). IsSeries r.code_words ms) (sym c.modules-modules.ensures.value)
-    c.modules-modules.ensures.series)
+pub first_book-requires-clause-within : goal.first_book-requires-clause-within
+first_book-requires-clause-within c = omega (arith, c.modules_at_start-starts.ensures.count)
 
--- the labels of the first so many modules are those of one policy more
+pub add_next-requires-clause-within : goal.add_next-requires-clause-within
+add_next-requires-clause-within c =
+    omega (arith, c.loop-count-test.true, ap length c.modules-many.ensures.value)
+
+pub add_next-requires-clause-book : goal.add_next-requires-clause-book
+add_next-requires-clause-book c = c.loop-count.invariant.book
+
+-- the labels of the start modules are those of the first policy
+pub loop-count-init : goal.loop-count-init
+loop-count-init c =
+    let r = c.args.roster.now in
+    let series = c.modules-many.ensures.series in
+    record {
+      book = c.in_ok-book.ensures;
+      sets = labels_first r c.modules_at_start-starts.ensures.lined c.args.last c.requires.order series
+          (λ n. c.first_have_image.ensures r.code_words r.placed n series) c.new-sets.result.items
+          c.add_labels.new.sets.items (length c.modules_at_start-starts.result.now) c.in_ok-book.book c.new-sets.ensures.items
+          c.modules_at_start-starts.ensures.count c.in_ok-book.ensures c.in_ok-add_labels.ensures;
+    }
+
+-- the labels of one module more are those of one policy more
 pub loop-count-preserved : goal.loop-count-preserved
 loop-count-preserved c =
     let r = c.args.roster.now in
-    let count = c.loop-count.count in
-    let labels = c.in_ok-first_labels.field-0 in
-    let images = λ (n : ℕ).
-    c.first_have_image.ensures r.code_words r.placed n c.modules-modules.ensures.series in
-    let placed : IsSetOf c.args.layout.now (take count r.placed) labels =
-    subst (λ (ms : List Placed). IsSetOf c.args.layout.now (take count ms) labels) c.modules-modules.ensures.value
-    c.in_ok-first_labels.ensures in
-    let is : IsSetOf r.code_words (take count r.placed) labels =
-    subst (λ (words : ℕ). IsSetOf words (take count r.placed) labels) c.requires.layout placed in
-    subst (λ (sets : List Labels). LabelsSoFar r c.args.last (count + 1) sets) (sym c.in_ok-push.ensures.items)
-    (labels_more r c.start_count-starts.ensures.lined c.args.last c.requires.order c.modules-modules.ensures.series
-    images c.loop-count.sets.items count labels c.loop-count.invariant is)
+    let series = c.modules-many.ensures.series in
+    record {
+      book = c.in_ok-add_next.ensures.book;
+      sets = labels_more r c.modules_at_start-starts.ensures.lined c.args.last c.requires.order series
+          (λ n. c.first_have_image.ensures r.code_words r.placed n series) c.loop-count.sets.items
+          c.add_next.new.sets.items (c.loop-count.count + 1) c.add_next.new.book c.loop-count.invariant.sets
+          c.in_ok-add_next.ensures.book c.in_ok-add_next.ensures.labels;
+    }
 
 pub returns : goal.returns
 returns c =
     let r = c.args.roster.now in
-    let many : length c.modules-modules.result.now ≡ length r.placed =
-    ap (λ (ms : List Placed). length ms) c.modules-modules.ensures.value in
-    let starts : c.start_count-starts.result ≤ length c.modules-modules.result.now + 1 =
-    omega (arith, c.start_count-starts.ensures.is, many) in
-    let end : c.loop-count.count ≡ length r.placed + 1 =
-    omega (arith, c.loop-count-test.false, c.loop-count.auto.count-end starts, many) in
+    let long : length c.modules-many.result.now ≡ length r.placed = omega (arith, ap length c.modules-many.ensures.value) in
+    let starts : length c.modules_at_start-starts.result.now ≤ length c.modules-many.result.now =
+    omega (arith, c.modules_at_start-starts.ensures.count, long) in
+    let end : c.loop-count.count ≡ length r.placed =
+    omega (arith, c.loop-count-test.false, c.loop-count.auto.count-end starts, long) in
     record {
-      count = omega (arith, c.loop-count.invariant.count, end);
-      each = c.loop-count.invariant.each;
+      count = omega (arith, c.loop-count.invariant.sets.count, end);
+      each = c.loop-count.invariant.sets.each;
     }
