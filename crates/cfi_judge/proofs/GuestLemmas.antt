@@ -15,7 +15,7 @@ use Rattle.cfi_valid.specs.Parts.{IsPartOf}
 use Rattle.cfi_valid.specs.Valid.{HasGuests}
 use Rattle.cfi_judge.specs.Guests.{HasStarts}
 use Rattle.cfi_judge.specs.inner.Guests.{IsGuest, AreGuests}
-use Rattle.cfi_judge.proofs.YesLemmas.{refuted}
+use Rattle.cfi_judge.proofs.RefutesLemmas.{refuted}
 
 -- the parts below a number are those of the plan's guests
 abbrev pub AreBelow : Plan → (starts : List Placed) → (parts : List GuestPart) → (number : ℕ) → Type 0

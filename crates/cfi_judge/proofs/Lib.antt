@@ -1,8 +1,10 @@
-pub mod YesLemmas
+pub mod RefutesLemmas
 pub mod ItemLemmas
 pub mod ScriptLemmas
 pub mod GuestLemmas
 pub mod MeetingLemmas
+pub mod KindLemmas
+pub mod HasMeetingLemmas
 pub mod LineLemmas
 pub mod WalkLemmas
 pub mod StepLemmas
@@ -15,9 +17,11 @@ pub mod ModulesLemmas
 pub mod UnjoinedLemmas
 pub mod LogLemmas
 pub mod CourseLemmas
+pub mod AheadLemmas
 pub mod SpanLemmas
 pub mod RowLemmas
-pub mod GrowLemmas
+pub mod ReachedLemmas
+pub mod CauseLemmas
 pub mod TrialLemmas
 pub mod PartLemmas
 pub mod FaultLemmas

@@ -16,6 +16,7 @@ use Rattle.cfi_valid.specs.Joining.{HasNoFault, IsUnloaded}
 use Rattle.cfi_valid.specs.Journal.{JournalState, HasNextEpoch, LineLeads}
 use Rattle.cfi_valid.specs.Loaded.{LoadedModule, placed_modules, planned_name}
 use Rattle.cfi_judge.specs.declared.entries.Change.TheVariants as changes
+use Rattle.cfi_judge.specs.declared.entries.Load.{Load}
 use Rattle.cfi_judge.specs.declared.fault.LineFault.{LineFault}
 use Rattle.cfi_judge.specs.declared.fault.LineFault.TheVariants.{Illegal}
 use Rattle.cfi_judge.specs.declared.fault.LineFault.TheVariants as faults
@@ -26,23 +27,25 @@ use Rattle.cfi_judge.proofs.MeetingLemmas.{joins_there, none_meets}
 
 -- ---- the line of a change
 
-module _ (number epoch policy : ℕ) where
-  pub line_of_module : (line : JournalLine) → change_of line ≡ changes.Module number epoch policy
-      → line ≡ LoadOk number epoch policy
-  line_of_module (LoadOk n e p) is =
-      let same_n : n ≡ number = cc in
-      let same_e : e ≡ epoch = cc in
-      let same_p : p ≡ policy = cc in
-      ap (λ (k : ℕ). LoadOk k e p) same_n ∙ ap (λ (k : ℕ). LoadOk number k p) same_e ∙ ap (LoadOk number epoch) same_p
-  line_of_module (LoadAgain n p) is = absurd (cc)
-  line_of_module (LoadFull n) is = absurd (cc)
-  line_of_module (LoadPlace n fault) is = absurd (cc)
-  line_of_module (LoadVerify n fault place) is = absurd (cc)
-  line_of_module (LoadVersions n guest quiet) is = absurd (cc)
-  line_of_module (LoadEpochs n) is = absurd (cc)
-  line_of_module (RefreshOk e) is = absurd (cc)
-  line_of_module (RefreshVersions guest quiet) is = absurd (cc)
-  line_of_module RefreshEpochs is = absurd (cc)
+abbrev pub line_of : Load → JournalLine
+line_of load = LoadOk load.number load.epoch load.policy
+
+abbrev load_by : (number epoch policy : ℕ) → Load
+load_by number epoch policy = record { number = number; epoch = epoch; policy = policy }
+
+pub line_of_module : (load : Load) (line : JournalLine) → change_of line ≡ changes.Module load → line ≡ line_of load
+line_of_module load (LoadOk n e p) is =
+    let same : load_by n e p ≡ load = cc in
+    ap line_of same
+line_of_module load (LoadAgain n p) is = absurd (cc)
+line_of_module load (LoadFull n) is = absurd (cc)
+line_of_module load (LoadPlace n fault) is = absurd (cc)
+line_of_module load (LoadVerify n fault place) is = absurd (cc)
+line_of_module load (LoadVersions n guest quiet) is = absurd (cc)
+line_of_module load (LoadEpochs n) is = absurd (cc)
+line_of_module load (RefreshOk e) is = absurd (cc)
+line_of_module load (RefreshVersions guest quiet) is = absurd (cc)
+line_of_module load RefreshEpochs is = absurd (cc)
 
 -- ---- the load of a module
 
@@ -55,7 +58,7 @@ module _ (plan : Plan) (modules : List Module) (old : Reached) (stands : StandsI
   module _ (epoch policy : ℕ) (name : List ℕ) (roster : Roster)
       (joined : HasJoined number name policy m old.roster roster) where
     abbrev new : Reached
-    new = record { epoch = epoch; policy = policy; roster = roster }
+    new = record { epoch = epoch; policy = policy; roster = roster; rows = old.rows }
 
     pub loads : HasNextEpoch (state_of old) epoch → policy ≡ old.policy + 1 → IsUnloaded modules loaded number
         → LineLeads plan modules (state_of old) (LoadOk number epoch policy) (state_of new)
@@ -94,19 +97,18 @@ module _ (plan : Plan) (modules : List Module) (old : Reached) (stands : StandsI
 
 -- ---- a line by what it changes
 
-module _ (plan : Plan) (modules : List Module) (old : Reached) (number epoch policy : ℕ) (line : JournalLine)
-    (is : change_of line ≡ changes.Module number epoch policy) (r : Result Reached LineFault) where
-  same_line : LoadOk number epoch policy ≡ line
-  same_line = sym (line_of_module number epoch policy line is)
+module _ (plan : Plan) (modules : List Module) (old : Reached) (load : Load) (line : JournalLine)
+    (is : change_of line ≡ changes.Module load) (r : Result Reached LineFault) where
+  same_line : line_of load ≡ line
+  same_line = sym (line_of_module load line is)
 
-  pub module_leads
-      : IfOk r (λ new. LineLeads plan modules (state_of old) (LoadOk number epoch policy) (state_of new))
+  pub module_leads : IfOk r (λ new. LineLeads plan modules (state_of old) (line_of load) (state_of new))
       → IfOk r (λ new. LineLeads plan modules (state_of old) line (state_of new))
   module_leads leads =
       subst (λ (l : JournalLine). IfOk r (λ new. LineLeads plan modules (state_of old) l (state_of new))) same_line
       leads
 
-  pub module_fault : IfErr r (IsLineFault plan modules (state_of old) (LoadOk number epoch policy))
+  pub module_fault : IfErr r (IsLineFault plan modules (state_of old) (line_of load))
       → IfErr r (IsLineFault plan modules (state_of old) line)
   module_fault fault =
       subst (λ (l : JournalLine). IfErr r (IsLineFault plan modules (state_of old) l)) same_line fault

@@ -16,7 +16,7 @@ use Rattle.cfi_valid.specs.Loaded.{LoadedModule, loaded_by}
 use Rattle.cfi_valid.specs.Log.{NeverFall}
 use Rattle.cfi_valid.proofs.KeptLemmas.{loaded_at, many_are}
 use Rattle.cfi_judge.specs.inner.Log.{HasOpens, HasOpen, IsThere}
-use Rattle.cfi_judge.specs.Reached.{IsLined}
+use Rattle.cfi_judge.specs.inner.Meets.{IsLined}
 use Rattle.cfi_judge.proofs.ItemLemmas.{found}
 
 -- ---- policies that never fall

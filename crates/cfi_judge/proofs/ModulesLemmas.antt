@@ -1,7 +1,7 @@
 -- The modules of a report: the start modules, and those that its journal tells of behind them.
-use Rattle.std.proofs.Common.{◌≡◌, ◌+◌, Bool, List, [], ◌++◌, length, map, take, drop, refl, sym, ap, subst, ◌∙◌, arith}
+use Rattle.std.proofs.Common.{◌≡◌, ℕ, ◌+◌, ◌-◌, ◌≤◌, Bool, List, [], ◌++◌, length, map, take, drop, refl, sym, ap, subst, ◌∙◌, arith}
 use Rattle.std.specs.Prelude.{◌↔◌, IsTrue}
-use Rattle.std.proofs.lemmas.List.{append-nil, length-map, length-take-le, map-append, take-append-drop}
+use Rattle.std.proofs.lemmas.List.{append-nil, length-map, length-take-le, map-append, take-append-drop, take_rest}
 use Rattle.cfi_aux.specs.declared.modules.Module.{Module}
 use Rattle.cfi_aux.specs.declared.placed.Placed.{Placed}
 use Rattle.cfi_plan.specs.declared.journal.ModuleLine.{ModuleLine}
@@ -18,9 +18,9 @@ use Rattle.cfi_valid.specs.Valid.{HasJournal}
 use Rattle.cfi_valid.proofs.KeptLemmas.{places_are}
 use Rattle.cfi_valid.proofs.ModulesLemmas.{journal_modules}
 use Rattle.cfi_judge.specs.Modules.{HasSomeModules}
-use Rattle.cfi_judge.specs.inner.Told.{ComeFrom, Follow}
+use Rattle.cfi_judge.specs.inner.Told.{Follow}
 use Rattle.cfi_judge.proofs.ListLemmas.{parts_same}
-use Rattle.cfi_judge.proofs.ToldLemmas.{come_once, first_placed, follow_on, followed, many}
+use Rattle.cfi_judge.proofs.ToldLemmas.{ComeFrom, come_once, first_placed, follow_on, followed, many}
 
 -- the modules of a report come from its plan and its journal
 pub has_come : (plan : Plan) (modules : List Module) (report : Report) (loaded : List LoadedModule)
@@ -155,3 +155,24 @@ module _ (plan : Plan) (modules : List Module) (report : Report) (r : Roster)
       λ yes. they_follow same (subst (Follow plan modules r.placed rest) os_are (exact.0 yes)),
       λ has. exact.1 (subst (Follow plan modules r.placed rest) (sym os_are) (rest_follow count has)),
     )
+
+  -- ---- the lines of a report in two parts
+
+  module _ (lines : List ModuleLine) (same : lines ≡ report.modules) (count : ℕ) (count_is : count ≡ length r.lines)
+      (within : count ≤ length lines) where
+    lines_are : report.modules ≡ take count lines ++ drop count lines
+    lines_are = sym same ∙ sym (take-append-drop count lines)
+
+    long : length (take count lines) ≡ length r.lines
+    long = length-take-le count lines within ∙ count_is
+
+    pub starts_are : HasSomeModules plan modules report → take count lines ≡ r.lines
+    starts_are has = first_are (take count lines) (drop count lines) lines_are long has
+
+    pub rest_told : take count lines ≡ r.lines → (os : List Origin) → os ≡ told → (answer : Bool)
+        → (IsTrue answer ↔ Follow plan modules r.placed (take (length lines - count) (drop count lines)) os)
+        → IsTrue answer ↔ HasSomeModules plan modules report
+    rest_told starts os os_are answer exact =
+        modules_told (take count lines) (drop count lines) lines_are long starts os os_are answer
+        (subst (λ (ls : List ModuleLine). IsTrue answer ↔ Follow plan modules r.placed ls os) (take_rest lines count)
+        exact)

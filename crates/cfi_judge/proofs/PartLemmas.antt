@@ -1,5 +1,5 @@
 -- The guests of a report, one by one.
-use Rattle.std.proofs.Common.{◌≡◌, ℕ, ◌+◌, ◌<◌, ◌≤◌, length, Some, sym, ap, subst, ◌∙◌, ⊎_elim, arith}
+use Rattle.std.proofs.Common.{◌≡◌, ℕ, ◌+◌, ◌<◌, ◌≤◌, List, length, get_or, Some, sym, ap, subst, ◌∙◌, ⊎_elim, arith}
 use Rattle.std.specs.List.{slice_get}
 use Rattle.std.proofs.lemmas.Bool.{cases_lt}
 use Rattle.std.proofs.lemmas.Option.{slice_get_within}
@@ -7,11 +7,18 @@ use Rattle.cfi_report.specs.declared.report.GuestPart.{GuestPart}
 use Rattle.cfi_report.specs.declared.report.Report.{Report}
 use Rattle.cfi_valid.specs.Valid.{OfEach}
 use Rattle.cfi_judge.specs.Judge.{IsFirstPart}
+use Rattle.cfi_judge.proofs.ItemLemmas.{item_there}
 
 -- something holds of the first guests
 abbrev pub OfFirst : Report → (Holds : (number : ℕ) → GuestPart → Type 0) → (number : ℕ) → Type 0
 OfFirst report Holds number =
     (k : ℕ) (part : GuestPart) → k < number → slice_get report.guests k ≡ Some part → Holds k part
+
+-- the part of a number
+pub part_there : (report : Report) (parts : List GuestPart) → parts ≡ report.guests → (number : ℕ) (part : GuestPart)
+    → number < length parts → part ≡ get_or parts number part → slice_get report.guests number ≡ Some part
+part_there report parts same number part within is =
+    subst (λ (ps : List GuestPart). slice_get ps number ≡ Some part) same (item_there parts number part within is)
 
 module _ (report : Report) (Holds : (number : ℕ) → GuestPart → Type 0) where
   pub none_first : OfFirst report Holds 0

@@ -12,11 +12,10 @@ use Rattle.cfi_modules.specs.declared.numbers.FaultNumbers.{FaultNumbers}
 use Rattle.cfi_modules.specs.declared.numbers.FaultNumbers.TheVariants.{Place, Verify}
 use Rattle.cfi_valid.specs.Journal.{JournalState}
 use Rattle.cfi_valid.specs.Loaded.{LoadedModule, loaded_by}
-use Rattle.cfi_judge.specs.Reached.{IsLined}
 use Rattle.cfi_judge.specs.inner.Rows.{AreRows, IsMeeting, IsRow, LackLast, meeting_of}
-use Rattle.cfi_judge.specs.inner.Meets.{Meets}
-use Rattle.cfi_judge.specs.declared.rows.Meeting.{Meeting}
-use Rattle.cfi_judge.specs.declared.rows.Meeting.TheVariants.{Again}
+use Rattle.cfi_judge.specs.inner.Meets.{IsLined, Meets}
+use Rattle.cfi_judge.specs.declared.meeting.Meeting.{Meeting}
+use Rattle.cfi_judge.specs.declared.meeting.Meeting.TheVariants.{Again}
 use Rattle.cfi_judge.proofs.MeetingLemmas.{has_fault, has_none, is_listed, unloaded}
 
 -- ---- one module
@@ -29,17 +28,12 @@ module _ (r : Roster) (lined : IsLined r) (number : ℕ) (modules : List Module)
   pub met_open : (m : Module) → slice_get modules number ≡ Some m → IsProspect r number Open
       → (told : Option FaultNumbers) → Meets r m told
       → IsMeeting r.code_words modules (loaded_in_roster r) number (meeting_of told)
-  met_open m there free (Some (Place fault)) meets = (
-    fault,
-    has_fault r lined number modules m there (Place fault)
-        (unloaded r lined number modules (slice_get_within modules number m there) free) meets,
-  )
-  met_open m there free (Some (Verify fault place)) meets = (
-    fault,
-    place,
-    has_fault r lined number modules m there (Verify fault place)
-        (unloaded r lined number modules (slice_get_within modules number m there) free) meets,
-  )
+  met_open m there free (Some (Place fault)) meets =
+      has_fault r lined number modules m there (Place fault)
+      (unloaded r lined number modules (slice_get_within modules number m there) free) meets
+  met_open m there free (Some (Verify fault place)) meets =
+      has_fault r lined number modules m there (Verify fault place)
+      (unloaded r lined number modules (slice_get_within modules number m there) free) meets
   met_open m there free None meets =
       has_none r lined number modules m there
       (unloaded r lined number modules (slice_get_within modules number m there) free) meets

@@ -1,9 +1,10 @@
 -- Replays, one by one.
-use Rattle.std.proofs.Common.{◌≡◌, ◌≢◌, ℕ, ◌+◌, ◌≤◌, Bool, false, List, length, Option, Some, None, Result, Ok, Err, subst, arith}
+use Rattle.std.proofs.Common.{◌≡◌, ◌≢◌, ℕ, ◌+◌, ◌≤◌, Bool, false, List, length, Option, Some, None, Result, Ok, Err, sym, ap, subst, arith}
 use Rattle.std.specs.Prelude.{◌↔◌, IfNone, IsTrue}
 use Rattle.std.specs.List.{slice_get}
 use Rattle.cfi_aux.specs.declared.modules.Module.{Module}
 use Rattle.cfi_ledger.specs.Plans.{CanStart}
+use Rattle.cfi_ledger.specs.Roster.{Roster, loaded_in_roster}
 use Rattle.cfi_ledger.proofs.PolicyLemmas.{journal_policies}
 use Rattle.cfi_model.specs.State.{State}
 use Rattle.cfi_plan.specs.declared.plan.Plan.{Plan}
@@ -24,10 +25,12 @@ use Rattle.cfi_judge.specs.declared.fault.JudgeFault.{JudgeFault}
 use Rattle.cfi_judge.specs.declared.fault.JudgeFault.TheVariants as faults
 use Rattle.cfi_judge.specs.declared.runs.Outcome.{Outcome}
 use Rattle.cfi_judge.specs.declared.runs.Outcome.TheVariants.{Other, Same, Steps}
-use Rattle.cfi_judge.specs.inner.Runs.{HasOutcome, kept_with}
+use Rattle.cfi_judge.specs.declared.trial.Trial.{Trial}
+use Rattle.cfi_judge.specs.inner.Runs.{HasOutcome, IsSetIn, kept_with}
+use Rattle.cfi_judge.specs.inner.Trial.{course_in}
 use Rattle.cfi_judge.proofs.FaultLemmas.{all_valid}
 use Rattle.cfi_judge.proofs.PartLemmas.{OfFirst, all_hold, first_part, none_first, one_more}
-use Rattle.cfi_judge.proofs.YesLemmas.{not_answered}
+use Rattle.cfi_judge.proofs.RefutesLemmas.{not_answered}
 
 -- ---- one replay
 
@@ -50,6 +53,13 @@ module _ (s : Setting) (part : GuestPart) where
       comes = (comes c is).comes;
       code_is = (comes c is).code_is;
     }
+
+-- the course that is judged is one of the replays
+pub set_course : (t : Trial) (s : Setting) → IsSetIn t s → IsCourseIn s (course_in t)
+set_course t s here = record {
+  plan_is = sym here.plan_is;
+  loaded_is = ap (λ (r : Roster). loaded_in_roster r) (sym here.roster_is);
+}
 
 -- ---- what a log has to have
 

@@ -9,7 +9,7 @@ use Rattle.cfi_ledger.specs.declared.due.Due.{Due}
 use Rattle.cfi_ledger.proofs.CallLemmas.{none_left}
 use Rattle.cfi_plan.specs.declared.journal.Entry.{Entry}
 use Rattle.cfi_valid.specs.Script.{Call, call_of, is_script, made_by_script}
-use Rattle.cfi_judge.proofs.YesLemmas.{never_true, refuted, yes}
+use Rattle.cfi_judge.proofs.RefutesLemmas.{never_true, refuted, yes}
 
 -- the first line's call comes before those of the others
 made_cons : (entry : Entry) (rest : List Entry)

@@ -20,8 +20,15 @@ use Rattle.cfi_valid.specs.Loaded.{LoadedModule, module_line_of, placed_modules}
 use Rattle.cfi_valid.specs.Modules.{ArePlaced, number_of, origin_of, start_origin, start_origins}
 use Rattle.cfi_valid.proofs.JournalLemmas.{loaded_same}
 use Rattle.cfi_valid.proofs.OrderLemmas.{places_once}
-use Rattle.cfi_judge.specs.inner.Told.{ComeFrom, Follow, IsToldBy}
+use Rattle.cfi_judge.specs.inner.Told.{Follow, IsToldBy}
 use Rattle.cfi_judge.proofs.ListLemmas.{among, each_there, few, map_at, seam}
+
+-- the modules are those of the start, and behind them those that are told; each stands at the next free place
+pub record ComeFrom (plan : Plan) (modules : List Module) (told : List Origin) (loaded : List LoadedModule)
+    : Type 0 where
+  pub origins : map origin_of loaded ≡ start_origins plan ++ told
+  pub places : ArePlaced plan.code_words (length (starts_from 0 plan.modules))
+      (modules_at modules (map number_of loaded)) (placed_modules loaded)
 
 abbrev place_of : LoadedModule → Placed
 place_of l = l.placed

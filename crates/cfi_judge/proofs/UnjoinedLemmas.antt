@@ -23,11 +23,10 @@ use Rattle.cfi_valid.specs.Modules.{number_of, origin_of, start_origin, told_ori
 use Rattle.cfi_valid.specs.Opening.{IsFirstUnjoined}
 use Rattle.cfi_valid.proofs.OrderLemmas.{order_once}
 use Rattle.cfi_judge.specs.Modules.{HasSomeModules}
-use Rattle.cfi_judge.specs.inner.Told.{ComeFrom}
 use Rattle.cfi_judge.proofs.ItemLemmas.{found}
 use Rattle.cfi_judge.proofs.ListLemmas.{parts_same}
 use Rattle.cfi_judge.proofs.ModulesLemmas.{has_come}
-use Rattle.cfi_judge.proofs.ToldLemmas.{behind_them, first_placed, many, numbers_told}
+use Rattle.cfi_judge.proofs.ToldLemmas.{ComeFrom, behind_them, first_placed, many, numbers_told}
 
 -- a list around one of its items
 around : {X : Type 0} (xs : List X) (k : ℕ) (x : X) → slice_get xs k ≡ Some x

@@ -2,7 +2,7 @@
 use Rattle.std.proofs.Common.{◌≡◌, ℕ, ◌+◌, ◌<◌, ◌++◌, List, [], ◌∷◌, length, take, drop, get_or, Some, Result, Ok, Err, inl, inr, refl, sym, ap, subst, ◌∙◌}
 use Rattle.std.specs.Prelude.{IfErr, IfOk, OnErr, OnOk}
 use Rattle.std.specs.List.{slice_get}
-use Rattle.std.proofs.lemmas.List.{take_more, take-append-drop, drop_more}
+use Rattle.std.proofs.lemmas.List.{take-append-drop, drop_more}
 use Rattle.std.proofs.lemmas.Option.{slice_get_within, get_or_from_slice_get}
 use Rattle.cfi_aux.specs.declared.modules.Module.{Module}
 use Rattle.cfi_ledger.specs.Roster.{Roster}
@@ -13,40 +13,15 @@ use Rattle.cfi_plan.specs.declared.plan.Plan.{Plan}
 use Rattle.cfi_report.specs.declared.report.Report.{Report}
 use Rattle.cfi_valid.specs.Journal.{JournalState, EntriesLead, EntryLeads, IsJournal}
 use Rattle.cfi_valid.specs.Valid.{HasJournal}
-use Rattle.cfi_valid.proofs.JournalLemmas.{along_more, along_once, journal_once, opening_once}
+use Rattle.cfi_valid.proofs.JournalLemmas.{along_once, journal_once, opening_once}
 use Rattle.cfi_judge.specs.declared.fault.JournalFault.{JournalFault}
 use Rattle.cfi_judge.specs.declared.fault.JournalFault.TheVariants.{Line, Memory}
 use Rattle.cfi_judge.specs.declared.reached.Reached.{Reached}
 use Rattle.cfi_judge.specs.Journal.{HasForce, IsIllegalAt, IsJournalFault}
 use Rattle.cfi_judge.specs.inner.Walk.{IsWalkFault}
-use Rattle.cfi_judge.specs.Reached.{StandsIn, state_of}
+use Rattle.cfi_judge.specs.Reached.{state_of}
 
 module _ (plan : Plan) (modules : List Module) where
-  -- the first entries lead to this state
-  pub record HasWalked (start : JournalState) (journal : List Entry) (number : ℕ) (reached : Reached) : Type 0 where
-    pub leads : EntriesLead plan modules start (take number journal) (state_of reached)
-    pub stands : StandsIn plan reached
-
-  module _ (start : JournalState) (journal : List Entry) (number : ℕ) (reached : Reached)
-      (walked : HasWalked start journal number reached) where
-    -- ---- one entry
-
-    module _ (within : number < length journal) (d : Entry) where
-      abbrev entry : Entry
-      entry = get_or journal number d
-
-      more : take (number + 1) journal ≡ take number journal ++ entry ∷ []
-      more = take_more journal number d within
-
-      pub walk_next : (next : Reached) → EntryLeads plan modules (state_of reached) entry (state_of next)
-          → StandsIn plan next → HasWalked start journal (number + 1) next
-      walk_next next leads stands = record {
-        leads = subst (λ (es : List Entry). EntriesLead plan modules start es (state_of next)) (sym more)
-            (along_more plan modules start (take number journal) entry (state_of reached) (state_of next) walked.leads
-            leads);
-        stands = stands;
-      }
-
   -- ---- the journal of a report
 
   along_split : (old : JournalState) (first rest : List Entry) (new : JournalState)

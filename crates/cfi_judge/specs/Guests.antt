@@ -1,4 +1,4 @@
--- Against what the guests of a report are judged.
+-- The plan and the start modules of a course.
 use Rattle.std.specs.Prelude.{◌≡◌, List}
 use Rattle.cfi_aux.specs.declared.placed.Placed.{Placed}
 use Rattle.cfi_plan.specs.declared.plan.Plan.{Plan}

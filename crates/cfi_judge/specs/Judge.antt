@@ -1,5 +1,5 @@
--- Why a report is none of a plan and its modules: the first part that fails, in the order of the variants, and in it the
--- least line or guest.
+-- Why a report is none of a plan and its modules: the first part that fails, in the order of the variants, and in it
+-- the least line or guest.
 use Rattle.std.specs.Prelude.{ℕ, ◌≡◌, ◌<◌, List, slice_get, Some, ⊤}
 use Rattle.cfi_aux.specs.declared.modules.Module.{Module}
 use Rattle.cfi_plan.specs.declared.plan.Plan.{Plan}
@@ -80,10 +80,10 @@ IsJudgeFault plan modules report Modules = ¬ HasSomeModules plan modules report
 IsJudgeFault plan modules report (Journal number) =
     HasSomeModules plan modules report × IsJournalFault plan modules report (Line number)
 IsJudgeFault plan modules report Script =
-    (end : JournalState) × HoldsToJournal plan modules report end × (HasScript plan report → ⊥)
+    (end : JournalState) × HoldsToJournal plan modules report end × (¬ HasScript plan report)
 IsJudgeFault plan modules report Guests =
     (end : JournalState) × HoldsToScript plan modules report end
-    × (HasGuests (course_of plan modules report end) report → ⊥)
+    × (¬ HasGuests (course_of plan modules report end) report)
 IsJudgeFault plan modules report (Log number) =
     (end : JournalState) × HoldsToGuests plan modules report end
     × IsFirstPart report (HasItsLog (course_of plan modules report end)) number

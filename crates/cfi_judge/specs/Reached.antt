@@ -1,6 +1,5 @@
 -- The state to which the first lines of a journal lead, as it is kept.
-use Rattle.std.specs.Prelude.{◌≡◌, length}
-use Rattle.cfi_ledger.specs.Roster.{IsRosterOf, Roster, loaded_in_roster}
+use Rattle.cfi_ledger.specs.Roster.{IsRosterOf, loaded_in_roster}
 use Rattle.cfi_plan.specs.declared.plan.Plan.{Plan}
 use Rattle.cfi_valid.specs.Journal.{JournalState}
 use Rattle.cfi_judge.specs.declared.reached.Reached.{Reached}
@@ -8,10 +7,6 @@ use Rattle.cfi_judge.specs.declared.reached.Reached.{Reached}
 -- the state
 abbrev pub state_of : Reached → JournalState
 state_of r = record { epoch = r.epoch; policy = r.policy; loaded = loaded_in_roster r.roster }
-
--- the roster has a line for each module
-abbrev pub IsLined : Roster → Type 0
-IsLined r = length r.lines ≡ length r.placed
 
 -- the modules stand in the code of the plan, with the line of a report each
 abbrev pub StandsIn : Plan → Reached → Type 0

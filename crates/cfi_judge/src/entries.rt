@@ -3,6 +3,7 @@
 ghost use Rattle.std.specs.Prelude.{◌≡◌, ◌≢◌, ◌↔◌, IfErr, IfOk, IsTrue};
 ghost use Rattle.cfi_judge.specs.inner.Lines.{IsEntryFault, IsLineFault, change_of};
 ghost use Rattle.cfi_judge.specs.Reached.{StandsIn, state_of};
+ghost use Rattle.cfi_judge.specs.inner.Reached.{IsReached};
 ghost use Rattle.cfi_judge.specs.declared.entries.Change.TheVariants.{Nothing};
 ghost use Rattle.cfi_judge.specs.declared.fault.LineFault.TheVariants.{Illegal};
 ghost use Rattle.cfi_ledger.specs.Plans.{CanStart};
@@ -18,15 +19,21 @@ use cfi_ledger::Entrant;
 use cfi_modules::JoinFault;
 use cfi_plan::{Entry, JournalLine, Plan, Who};
 
+// A load, as a line tells it.
+#[derive(Clone, Copy)]
+struct Load {
+    // The module's number.
+    number: u32,
+    // The epoch and the policy that came with it.
+    epoch: u32,
+    policy: u32,
+}
+
 // What a line changes.
 #[derive(Clone, Copy)]
 enum Change {
     // A module is loaded, in a new epoch.
-    Module {
-        number: u32,
-        epoch: u32,
-        policy: u32,
-    },
+    Module(Load),
     // There is a new epoch.
     Epoch(u32),
     Nothing,
@@ -41,11 +48,11 @@ fn change_of(line: JournalLine) -> Change
             module,
             epoch,
             policy,
-        } => Change::Module {
+        } => Change::Module(Load {
             number: module,
             epoch,
             policy,
-        },
+        }),
         JournalLine::RefreshOk { epoch } => Change::Epoch(epoch),
         JournalLine::LoadAgain { .. } => Change::Nothing,
         JournalLine::LoadFull { .. } => Change::Nothing,
@@ -98,31 +105,26 @@ fn unjoined(fault: &JoinFault) -> LineFault
 
 impl Reached {
     // With one module more, in a new epoch.
-    fn load(
-        self,
-        plan: &Plan,
-        modules: &[Module],
-        number: u32,
-        epoch: u32,
-        policy: u32,
-    ) -> Result<Reached, LineFault>
+    fn load(self, plan: &Plan, modules: &[Module], load: Load) -> Result<Reached, LineFault>
         requires can { CanStart plan.now modules.now }
-        requires stands { StandsIn plan.now self }
+        requires reached { IsReached plan.now modules.now self }
         ensures ok { IfOk result (λ new. LineLeads plan.now modules.now (state_of self)
-            (LoadOk number epoch policy) (state_of new)) }
+            (LoadOk load.number load.epoch load.policy) (state_of new)) }
         ensures stands { IfOk result (StandsIn plan.now) }
+        ensures rows { IfOk result (λ new. new.rows ≡ self.rows) }
         ensures fault { IfErr result (IsLineFault plan.now modules.now (state_of self)
-            (LoadOk number epoch policy)) }
+            (LoadOk load.number load.epoch load.policy)) }
     {
-        must(self.is_next_epoch(epoch))?;
-        must(self.is_next_policy(policy))?;
-        must(is_unloaded(&self.roster, modules, number))?;
-        let entrant = Entrant::of(plan, number, policy);
-        match self.roster.add(&entrant, &modules[number as usize]) {
+        must(self.is_next_epoch(load.epoch))?;
+        must(self.is_next_policy(load.policy))?;
+        must(is_unloaded(&self.roster, modules, load.number))?;
+        let entrant = Entrant::of(plan, load.number, load.policy);
+        match self.roster.add(&entrant, &modules[load.number as usize]) {
             Ok(roster) => Ok(Reached {
-                epoch,
-                policy,
+                epoch: load.epoch,
+                policy: load.policy,
                 roster,
+                rows: self.rows,
             }),
             Err(fault) => Err(unjoined(&fault)),
         }
@@ -130,10 +132,11 @@ impl Reached {
 
     // In a new epoch.
     fn refresh(self, plan: &Plan, modules: &[Module], epoch: u32) -> Result<Reached, LineFault>
-        requires stands { StandsIn plan.now self }
+        requires { IsReached plan.now modules.now self }
         ensures ok { IfOk result (λ new. LineLeads plan.now modules.now (state_of self)
             (RefreshOk epoch) (state_of new)) }
         ensures stands { IfOk result (StandsIn plan.now) }
+        ensures rows { IfOk result (λ new. new.rows ≡ self.rows) }
         ensures fault { IfErr result (IsLineFault plan.now modules.now (state_of self)
             (RefreshOk epoch)) }
     {
@@ -142,22 +145,19 @@ impl Reached {
             epoch,
             policy: self.policy,
             roster: self.roster,
+            rows: self.rows,
         })
     }
 
     // After a line that changes nothing.
-    fn stay(
-        mut self,
-        plan: &Plan,
-        modules: &[Module],
-        line: JournalLine,
-    ) -> Result<Reached, LineFault>
+    fn stay(self, plan: &Plan, modules: &[Module], line: JournalLine) -> Result<Reached, LineFault>
         requires can { CanStart plan.now modules.now }
-        requires stands { StandsIn plan.now self }
+        requires reached { IsReached plan.now modules.now self }
         requires same { change_of line ≡ Nothing }
         ensures ok { IfOk result (λ new. LineLeads plan.now modules.now (state_of self)
             line (state_of new)) }
         ensures stands { IfOk result (StandsIn plan.now) }
+        ensures rows { IfOk result (λ new. new.rows ≡ self.rows) }
         ensures fault { IfErr result (IsLineFault plan.now modules.now (state_of self) line) }
     {
         self.must_refuse(plan, modules, line)?;
@@ -167,18 +167,15 @@ impl Reached {
     // After a line.
     fn go(self, plan: &Plan, modules: &[Module], line: JournalLine) -> Result<Reached, LineFault>
         requires can { CanStart plan.now modules.now }
-        requires stands { StandsIn plan.now self }
+        requires reached { IsReached plan.now modules.now self }
         ensures ok { IfOk result (λ new. LineLeads plan.now modules.now (state_of self)
             line (state_of new)) }
         ensures stands { IfOk result (StandsIn plan.now) }
+        ensures rows { IfOk result (λ new. new.rows ≡ self.rows) }
         ensures fault { IfErr result (IsLineFault plan.now modules.now (state_of self) line) }
     {
         match change_of(line) {
-            Change::Module {
-                number,
-                epoch,
-                policy,
-            } => self.load(plan, modules, number, epoch, policy),
+            Change::Module(load) => self.load(plan, modules, load),
             Change::Epoch(epoch) => self.refresh(plan, modules, epoch),
             Change::Nothing => self.stay(plan, modules, line),
         }
@@ -192,10 +189,11 @@ impl Reached {
         entry: &Entry,
     ) -> Result<Reached, LineFault>
         requires can { CanStart plan.now modules.now }
-        requires stands { StandsIn plan.now self }
+        requires reached { IsReached plan.now modules.now self }
         ensures ok { IfOk result (λ new. EntryLeads plan.now modules.now (state_of self)
             entry.now (state_of new)) }
         ensures stands { IfOk result (StandsIn plan.now) }
+        ensures rows { IfOk result (λ new. new.rows ≡ self.rows) }
         ensures fault { IfErr result (IsEntryFault plan.now modules.now (state_of self) entry.now) }
     {
         must(may_ask(plan, entry))?;

@@ -45,15 +45,16 @@ impl From<AllocError> for JournalFault {
     }
 }
 
-/// Why a report is none of a plan and its modules: the first part that fails, in the order of the variants, and in it the
-/// least number, from 0.
+/// Why a report is none of a plan and its modules: the first part that fails, in the order of the variants, and in it
+/// the least number, from 0.
 #[derive(Clone, Copy, Debug, PartialEq, Eq, Error)]
 pub enum JudgeFault {
-    /// Its modules are not those that the plan and its journal tell of, or a start module does not join those before it.
+    /// Its modules are not those that the plan and its journal tell of, or a start module does not join those before
+    /// it.
     #[error("Modules")]
     Modules,
-    /// The line of this number is not legal where it stands; or this is the number of lines, and the force is not the one
-    /// to which they lead.
+    /// The line of this number is not legal where it stands; or this is the number of lines, and the force is not the
+    /// one to which they lead.
     #[error("Journal {0}")]
     Journal(usize),
     /// The lines for which the script asked are not those of its calls.

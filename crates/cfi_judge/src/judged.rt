@@ -1,11 +1,12 @@
 //! The judge of a whole report.
 
 ghost use Rattle.std.specs.Prelude.{◌≡◌, IfErr, IfOk, OnOk, length};
-ghost use Rattle.cfi_judge.specs.Judge.{HoldsToGuests, HoldsToJournal, IsJudgeFault};
-ghost use Rattle.cfi_judge.specs.Reached.{StandsIn, state_of};
+ghost use Rattle.cfi_judge.specs.Judge.{HoldsToGuests, IsJudgeFault};
+ghost use Rattle.cfi_judge.specs.Reached.{state_of};
 ghost use Rattle.cfi_judge.specs.declared.fault.JudgeFault.TheVariants.{Memory};
+ghost use Rattle.cfi_judge.specs.inner.Ending.{IsEnding};
 ghost use Rattle.cfi_judge.specs.inner.Faults.{start_fault};
-ghost use Rattle.cfi_judge.specs.inner.Rows.{AreRows};
+ghost use Rattle.cfi_judge.specs.inner.Reached.{IsReached};
 ghost use Rattle.cfi_ledger.specs.Plans.{CanStart};
 ghost use Rattle.cfi_ledger.specs.Starts.{AreStarted};
 ghost use Rattle.cfi_report.specs.declared.report.Report.{Report as AnyReport};
@@ -13,10 +14,9 @@ ghost use Rattle.cfi_valid.specs.Valid.{IsValidReport};
 
 use crate::fault::JudgeFault;
 use crate::guests::has_guests;
-use crate::journal::journal_end;
+use crate::journal::end_reached;
 use crate::modules::has_modules;
 use crate::reached::Reached;
-use crate::rows::{Meeting, meetings};
 use crate::script::has_script;
 use crate::trial::Trial;
 use cfi_aux::Module;
@@ -24,7 +24,6 @@ use cfi_ledger::{Roster, StartFault, start_modules};
 use cfi_modules::loaded_have_entries;
 use cfi_plan::Plan;
 use cfi_report::Report;
-use cfi_values::Items;
 use cfi_word::Layout;
 use std::alloc::Global;
 
@@ -52,7 +51,41 @@ fn started(alloc: Global, plan: &Plan, modules: &[Module]) -> Result<Roster, Jud
     }
 }
 
-// The state to which the journal of a report leads that has the modules and the journal.
+// Where the journal of a report leads, and whether the report has the guests.
+#[derive(Drop)]
+struct Ending {
+    // The state.
+    reached: Reached,
+    // The guests are those of the plan, each with somewhere to begin.
+    has_guests: bool,
+}
+
+// The ending of a report that has the modules and the journal.
+fn ending_of(
+    alloc: Global,
+    plan: &Plan,
+    modules: &[Module],
+    report: &Report,
+) -> Result<Ending, JudgeFault>
+    requires { CanStart plan.now modules.now }
+    ensures ok { IfOk result (IsEnding plan.now modules.now report.now) }
+    ensures fault { IfErr result (IsJudgeFault plan.now modules.now report.now) }
+{
+    let starts = started(alloc, plan, modules)?;
+    let listed = has_modules(alloc, plan, modules, &starts, report)?;
+    if !listed {
+        return Err(JudgeFault::Modules);
+    }
+    loaded_have_entries();
+    let entered = has_guests(plan, starts.modules(), report);
+    let reached = end_reached(alloc, plan, modules, starts, report)?;
+    Ok(Ending {
+        reached,
+        has_guests: entered,
+    })
+}
+
+// The state to which the journal of a report leads that has the script and the guests too.
 fn end_of(
     alloc: Global,
     plan: &Plan,
@@ -61,46 +94,19 @@ fn end_of(
 ) -> Result<Reached, JudgeFault>
     requires { CanStart plan.now modules.now }
     ensures ok { IfOk result (λ end.
-        HoldsToJournal plan.now modules.now report.now (state_of end)) }
-    ensures stands { IfOk result (StandsIn plan.now) }
+        HoldsToGuests plan.now modules.now report.now (state_of end)) }
+    ensures reached { IfOk result (IsReached plan.now modules.now) }
     ensures fault { IfErr result (IsJudgeFault plan.now modules.now report.now) }
 {
-    let starts = started(alloc, plan, modules)?;
-    let listed = has_modules(alloc, plan, modules, &starts, report)?;
-    if !listed {
-        return Err(JudgeFault::Modules);
-    }
-    let end = journal_end(plan, modules, starts, report)?;
-    Ok(end)
-}
-
-// What each module meets behind those that each policy finds loaded, where a report has the script and the guests too.
-fn rows_of(
-    alloc: Global,
-    plan: &Plan,
-    modules: &[Module],
-    end: &Reached,
-    report: &Report,
-) -> Result<Vec<Items<Meeting>>, JudgeFault>
-    requires can { CanStart plan.now modules.now }
-    requires before { HoldsToJournal plan.now modules.now report.now (state_of end.now) }
-    ensures ok { IfOk result (λ rows.
-        AreRows plan.now.code_words modules.now (state_of end.now) rows.items) }
-    ensures guests { OnOk result
-        (HoldsToGuests plan.now modules.now report.now (state_of end.now)) }
-    ensures fault { IfErr result (IsJudgeFault plan.now modules.now report.now) }
-{
+    let ending = ending_of(alloc, plan, modules, report)?;
     let called = has_script(alloc, plan, report)?;
     if !called {
         return Err(JudgeFault::Script);
     }
-    let starts = started(alloc, plan, modules)?;
-    loaded_have_entries();
-    if !has_guests(plan, starts.modules(), report) {
+    if !ending.has_guests {
         return Err(JudgeFault::Guests);
     }
-    let rows = meetings(alloc, plan, modules, starts, report)?;
-    Ok(rows)
+    Ok(ending.reached)
 }
 
 // Judges the parts of a report, one after the other.
@@ -115,13 +121,11 @@ fn judge_parts(
     ensures fault { IfErr result (IsJudgeFault plan.now modules.now report.now) }
 {
     let end = end_of(alloc, plan, modules, report)?;
-    let rows = rows_of(alloc, plan, modules, &end, report)?;
     let trial = Trial {
         plan,
         modules,
         report,
         end: &end,
-        rows: rows.as_slice(),
     };
     match trial.first_unlogged() {
         Some(number) => Err(JudgeFault::Log(number)),
@@ -131,8 +135,8 @@ fn judge_parts(
 
 /// Whether a report is a valid one of a plan and its modules; else the first part that fails.
 ///
-/// `modules` are those of the plan, one a line. The parts are judged over all guests in turn, and each guest is replayed
-/// once; no run is trusted.
+/// `modules` are those of the plan, one a line. The parts are judged over all guests in turn, and each guest is
+/// replayed at most once; no run is trusted.
 pub fn judge(
     alloc: Global,
     plan: &Plan,

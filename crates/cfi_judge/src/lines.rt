@@ -1,17 +1,17 @@
 //! Lines of a journal, where they stand.
 
-ghost use Rattle.std.specs.Prelude.{◌≡◌, ◌↔◌, ◌+◌, All, IfErr, IsTrue, OnOk};
+ghost use Rattle.std.specs.Prelude.{◌≡◌, ◌↔◌, ◌+◌, IfErr, IsTrue, OnOk};
+ghost use Rattle.cfi_judge.specs.Reached.{state_of};
 ghost use Rattle.cfi_judge.specs.inner.Faults.{Refutes};
 ghost use Rattle.cfi_judge.specs.inner.Lines.{IsRefusal};
-ghost use Rattle.cfi_judge.specs.Reached.{IsLined, StandsIn, state_of};
-ghost use Rattle.cfi_modules.specs.Series.{CanBeTaken};
+ghost use Rattle.cfi_judge.specs.inner.Meets.{IsLined};
+ghost use Rattle.cfi_judge.specs.inner.Reached.{IsReached};
 ghost use Rattle.cfi_valid.specs.Journal.{HasNextEpoch, IsAgain, IsOutOfEpochs, IsTooOld};
 
 use crate::fault::{LineFault, must};
-use crate::meeting::{is_full, is_loaded, must_fail, must_join};
+use crate::meeting::{Meeting, is_full, is_loaded};
 use crate::reached::Reached;
 use cfi_aux::Module;
-use cfi_modules::FaultNumbers;
 use cfi_plan::{JournalLine, Plan};
 use cfi_word::limits::MAX_EPOCH;
 
@@ -56,53 +56,49 @@ impl Reached {
             && u64::from(quiet) + u64::from(plan.versions) < u64::from(self.epoch) + 3
     }
 
-    // That a line tells of a refusal, or of a module that is loaded already, and is legal.
-    pub(crate) fn must_refuse(
-        &mut self,
-        plan: &Plan,
-        modules: &[Module],
-        line: JournalLine,
-    ) -> Result<(), LineFault>
-        requires stands { StandsIn plan.now self.old }
-        requires taken { All CanBeTaken modules.now }
-        ensures ok { OnOk result (IsRefusal plan.now modules.now (state_of self.old) line) }
-        ensures fault { IfErr result
-            (Refutes (IsRefusal plan.now modules.now (state_of self.old) line)) }
-        ensures same { self.new ≡ self.old }
+    // What a line tells of a refusal, or of a module that is loaded already, is so. No module is tried again.
+    fn is_refusal(&self, plan: &Plan, modules: &[Module], line: JournalLine) -> bool
+        requires { IsReached plan.now modules.now self.now }
+        ensures { IsTrue result ↔ IsRefusal plan.now modules.now (state_of self.now) line }
     {
         match line {
-            JournalLine::LoadOk { .. } => must(false),
-            JournalLine::LoadAgain { module, policy } => must(self.is_again(module, policy)),
-            JournalLine::LoadFull { module } => must(is_full(&self.roster, modules, module)),
+            JournalLine::LoadOk { .. } => false,
+            JournalLine::LoadAgain { module, policy } => self.is_again(module, policy),
+            JournalLine::LoadFull { module } => is_full(&self.roster, modules, module),
             JournalLine::LoadPlace { module, number } => {
-                let numbers = FaultNumbers::Place { number };
-                must_fail(&mut self.roster, modules, module, numbers)
+                self.meets(module, Meeting::Unplaced(number))
             }
             JournalLine::LoadVerify {
                 module,
                 number,
                 place,
-            } => {
-                let numbers = FaultNumbers::Verify { number, place };
-                must_fail(&mut self.roster, modules, module, numbers)
-            }
+            } => self.meets(module, Meeting::Unverified { number, place }),
             JournalLine::LoadVersions {
                 module,
                 guest,
                 quiet,
-            } => {
-                must(self.is_too_old(plan, guest, quiet))?;
-                must_join(&mut self.roster, modules, module)
-            }
+            } => self.is_too_old(plan, guest, quiet) && self.meets(module, Meeting::Joins),
             JournalLine::LoadEpochs { module } => {
-                must(self.is_last_epoch())?;
-                must_join(&mut self.roster, modules, module)
+                self.is_last_epoch() && self.meets(module, Meeting::Joins)
             }
-            JournalLine::RefreshOk { .. } => must(false),
-            JournalLine::RefreshVersions { guest, quiet } => {
-                must(self.is_too_old(plan, guest, quiet))
-            }
-            JournalLine::RefreshEpochs => must(self.is_last_epoch()),
+            JournalLine::RefreshOk { .. } => false,
+            JournalLine::RefreshVersions { guest, quiet } => self.is_too_old(plan, guest, quiet),
+            JournalLine::RefreshEpochs => self.is_last_epoch(),
         }
+    }
+
+    /// That a line tells of a refusal, or of a module that is loaded already, and is legal.
+    pub(crate) fn must_refuse(
+        &self,
+        plan: &Plan,
+        modules: &[Module],
+        line: JournalLine,
+    ) -> Result<(), LineFault>
+        requires { IsReached plan.now modules.now self.now }
+        ensures ok { OnOk result (IsRefusal plan.now modules.now (state_of self.now) line) }
+        ensures fault { IfErr result
+            (Refutes (IsRefusal plan.now modules.now (state_of self.now) line)) }
+    {
+        must(self.is_refusal(plan, modules, line))
     }
 }

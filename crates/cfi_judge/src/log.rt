@@ -2,7 +2,6 @@
 
 ghost use Rattle.std.specs.Prelude.{◌≡◌, ◌↔◌, IsTrue};
 ghost use Rattle.cfi_judge.specs.inner.Log.{HasOpens, HasRisen, HasOpen, IsThere};
-ghost use Rattle.cfi_judge.specs.Reached.{IsLined};
 ghost use Rattle.cfi_ledger.specs.Roster.{loaded_in_roster};
 ghost use Rattle.cfi_model.specs.Log.{policy_after};
 ghost use Rattle.cfi_modules.specs.Entry.{HasAddresses, IsFirstOf, IsGlobal};
@@ -61,7 +60,6 @@ fn is_open_at(line: &ModuleLine, placed: &Placed, number: u32, address: u32, pol
 
 // A module of this number is loaded by the policy, and the address is that of its first Global function.
 fn has_function_at(roster: &Roster, number: u32, address: u32, policy: u32) -> bool
-    requires { IsLined roster.now }
     ensures { IsTrue result ↔ HasFunctionAt
         (loaded_by policy (loaded_in_roster roster.now)) number address }
 {
@@ -78,7 +76,6 @@ fn has_function_at(roster: &Roster, number: u32, address: u32, policy: u32) -> b
 
 // What an entry says is open is so.
 fn is_opened(roster: &Roster, entry: &Log) -> bool
-    requires { IsLined roster.now }
     ensures { IsTrue result ↔ HasOpen (loaded_in_roster roster.now) entry.now }
 {
     match entry {
@@ -94,7 +91,6 @@ fn is_opened(roster: &Roster, entry: &Log) -> bool
 
 /// Whether each module that a log says was opened is loaded by the policy of its entry, where the log says.
 pub(crate) fn log_opens(roster: &Roster, log: &[Log]) -> bool
-    requires { IsLined roster.now }
     ensures { IsTrue result ↔ HasOpens (loaded_in_roster roster.now) log.now }
 {
     for entry in log {

@@ -1,19 +1,55 @@
 //! What a module of the plan meets behind those that are loaded.
 
-ghost use Rattle.std.specs.Prelude.{◌≡◌, ◌↔◌, ◌<◌, All, IfErr, IfOk, IsTrue, OnOk, Some};
-ghost use Rattle.cfi_judge.specs.inner.Faults.{Refutes};
-ghost use Rattle.cfi_judge.specs.Reached.{IsLined};
-ghost use Rattle.cfi_judge.specs.inner.Meets.{Meets};
+ghost use Rattle.std.specs.Prelude.{◌≡◌, ◌↔◌, ◌<◌, All, IfOk, IsTrue, length};
+ghost use Rattle.cfi_judge.specs.inner.Meets.{IsLined, Meets};
+ghost use Rattle.cfi_judge.specs.inner.Rows.{IsMeeting, kind_of, meeting_of};
 ghost use Rattle.cfi_ledger.specs.Roster.{loaded_in_roster};
 ghost use Rattle.cfi_modules.specs.Series.{CanBeTaken};
-ghost use Rattle.cfi_valid.specs.Joining.{HasFault, HasNoFault, IsFull, IsUnloaded};
+ghost use Rattle.cfi_valid.specs.Joining.{IsFull, IsUnloaded};
 ghost use Rattle.cfi_valid.specs.Loaded.{IsLoaded};
 
-use crate::fault::{LineFault, must};
 use cfi_aux::Module;
 use cfi_ledger::{Prospect, Roster};
 use cfi_modules::FaultNumbers;
 use std::alloc::AllocError;
+
+/// What a module of the plan meets behind those that are loaded.
+#[derive(Clone, Copy, Debug, PartialEq, Eq)]
+pub(crate) enum Meeting {
+    /// It is one of them.
+    Again,
+    /// It is none, and no further one may be loaded.
+    Full,
+    /// There is room, and it is not placed, for the fault of this number.
+    Unplaced(u32),
+    /// It is placed, and does not verify, for the fault of this number at this place.
+    Unverified { number: u32, place: u32 },
+    /// It has no fault.
+    Joins,
+}
+
+/// A meeting without the numbers of a fault.
+#[derive(Clone, Copy, Debug, PartialEq, Eq)]
+pub(crate) enum Kind {
+    Again,
+    Full,
+    Unplaced,
+    Unverified,
+    Joins,
+}
+
+/// A meeting without the numbers of its fault.
+pub(crate) fn kind_of(meeting: Meeting) -> Kind
+    ensures { result ≡ kind_of meeting }
+{
+    match meeting {
+        Meeting::Again => Kind::Again,
+        Meeting::Full => Kind::Full,
+        Meeting::Unplaced(_) => Kind::Unplaced,
+        Meeting::Unverified { .. } => Kind::Unverified,
+        Meeting::Joins => Kind::Joins,
+    }
+}
 
 /// Whether the module of the number is loaded.
 pub(crate) fn is_loaded(roster: &Roster, number: u32) -> bool
@@ -56,11 +92,8 @@ pub(crate) fn is_unloaded(roster: &Roster, modules: &[Module], number: u32) -> b
     }
 }
 
-/// What a module meets.
-pub(crate) fn meets(
-    roster: &mut Roster,
-    unplaced: &Module,
-) -> Result<Option<FaultNumbers>, AllocError>
+// What a module meets: the numbers of its fault behind the others, none where it joins them.
+fn meets(roster: &mut Roster, unplaced: &Module) -> Result<Option<FaultNumbers>, AllocError>
     requires { CanBeTaken unplaced.now }
     ensures ok { IfOk result (Meets roster.old unplaced.now) }
     ensures same { roster.new ≡ roster.old }
@@ -74,51 +107,36 @@ pub(crate) fn meets(
     }
 }
 
-// The numbers are these.
-fn is_told(told: Option<FaultNumbers>, numbers: FaultNumbers) -> bool
-    ensures { IsTrue result ↔ (told ≡ Some numbers) }
+// The meeting of a module that is not loaded, where there is room.
+fn meeting_of(told: Option<FaultNumbers>) -> Meeting
+    ensures { result ≡ meeting_of told }
 {
     match told {
-        Some(one) => one == numbers,
-        None => false,
+        Some(FaultNumbers::Place { number }) => Meeting::Unplaced(number),
+        Some(FaultNumbers::Verify { number, place }) => Meeting::Unverified { number, place },
+        None => Meeting::Joins,
     }
 }
 
-/// That a module of the plan is not loaded, there is room, and it has a fault of these numbers.
-pub(crate) fn must_fail(
+/// What the module of the plan of a number meets.
+pub(crate) fn met(
     roster: &mut Roster,
     modules: &[Module],
     number: u32,
-    numbers: FaultNumbers,
-) -> Result<(), LineFault>
+) -> Result<Meeting, AllocError>
     requires lined { IsLined roster.old }
     requires taken { All CanBeTaken modules.now }
-    ensures ok { OnOk result (HasFault roster.old.code_words modules.now
-        (loaded_in_roster roster.old) number numbers) }
-    ensures fault { IfErr result (Refutes (HasFault roster.old.code_words modules.now
-        (loaded_in_roster roster.old) number numbers)) }
-    ensures same { roster.new ≡ roster.old }
-{
-    must(is_unloaded(roster, modules, number))?;
-    let told = meets(roster, &modules[number as usize])?;
-    must(is_told(told, numbers))
-}
-
-/// That a module of the plan is not loaded, there is room, and it has no fault.
-pub(crate) fn must_join(
-    roster: &mut Roster,
-    modules: &[Module],
-    number: u32,
-) -> Result<(), LineFault>
-    requires lined { IsLined roster.old }
-    requires taken { All CanBeTaken modules.now }
-    ensures ok { OnOk result (HasNoFault roster.old.code_words modules.now
+    requires known { number < length modules.now }
+    ensures ok { IfOk result (IsMeeting roster.old.code_words modules.now
         (loaded_in_roster roster.old) number) }
-    ensures fault { IfErr result (Refutes (HasNoFault roster.old.code_words modules.now
-        (loaded_in_roster roster.old) number)) }
     ensures same { roster.new ≡ roster.old }
 {
-    must(is_unloaded(roster, modules, number))?;
-    let told = meets(roster, &modules[number as usize])?;
-    must(told.is_none())
+    match roster.prospect(number) {
+        Prospect::Again(_) => Ok(Meeting::Again),
+        Prospect::Full => Ok(Meeting::Full),
+        Prospect::Open => {
+            let told = meets(roster, &modules[number as usize])?;
+            Ok(meeting_of(told))
+        }
+    }
 }

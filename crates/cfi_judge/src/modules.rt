@@ -40,7 +40,6 @@ fn are_lines(lines: &[ModuleLine], others: &[ModuleLine]) -> bool
 
 // The modules that are told follow those before the start, each with its line. The first that does not ends it.
 fn follow(
-    alloc: Global,
     plan: &Plan,
     modules: &[Module],
     start: Next,
@@ -56,7 +55,7 @@ fn follow(
 {
     let mut next = start;
     for number in 0..told.len() {
-        next = match next.take(alloc, plan, modules, &lines[number], told[number])? {
+        next = match next.take(plan, modules, &lines[number], told[number])? {
             Some(next) => next,
             None => return Ok(false),
         };
@@ -91,5 +90,5 @@ pub fn has_modules(
         return Ok(false);
     }
     let next = Next::behind(alloc, plan.code_words, starts.modules())?;
-    follow(alloc, plan, modules, next, &lines[count..], &told)
+    follow(plan, modules, next, &lines[count..], &told)
 }

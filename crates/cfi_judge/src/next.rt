@@ -32,6 +32,8 @@ pub(crate) struct Next {
     pub code_words: u32,
     /// The names that those before it export.
     pub names: Symbols,
+    /// Where memory comes from.
+    pub alloc: Global,
 }
 
 // Adds the names that a module exports.
@@ -77,6 +79,7 @@ impl Next {
             data_base: DATA_START,
             code_words,
             names: Symbols::new(alloc),
+            alloc,
         }
     }
 
@@ -91,6 +94,7 @@ impl Next {
             data_base,
             code_words,
             mut names,
+            alloc,
         } = self;
         add_exports(&mut names, placed.exports.as_slice())?;
         let end = data_base + placed.static_data.len() as u32;
@@ -100,6 +104,7 @@ impl Next {
             data_base: end.next_multiple_of(DATA_ALIGNMENT as u32),
             code_words,
             names,
+            alloc,
         })
     }
 
@@ -150,12 +155,12 @@ impl Next {
     }
 
     // What placing makes of a module here, if it is placed.
-    fn placed_here(&self, alloc: Global, unplaced: &Module) -> Result<Option<Placed>, AllocError>
+    fn placed_here(&self, unplaced: &Module) -> Result<Option<Placed>, AllocError>
         requires taken { CanBeTaken unplaced.now }
         requires room { IsRoom (room_of self.now) }
         ensures { IfOk result (StandsThere self.now unplaced.now) }
     {
-        match place(alloc, unplaced, &self.room(), &self.names) {
+        match place(self.alloc, unplaced, &self.room(), &self.names) {
             Ok(placed) => Ok(Some(placed)),
             Err(PlaceFault::Memory) => Err(AllocError),
             Err(_) => Ok(None),
@@ -165,7 +170,6 @@ impl Next {
     /// The place behind the module that is told, where it stands here and the line says so.
     pub(crate) fn take(
         self,
-        alloc: Global,
         plan: &Plan,
         modules: &[Module],
         line: &ModuleLine,
@@ -182,7 +186,7 @@ impl Next {
         if !self.has_line(plan, line, told) {
             return Ok(None);
         }
-        match self.placed_here(alloc, &modules[told.number as usize])? {
+        match self.placed_here(&modules[told.number as usize])? {
             Some(placed) => Ok(Some(self.pass(&placed)?)),
             None => Ok(None),
         }

@@ -1,16 +1,16 @@
 //! The spans of the entries of a log, and the cause that a module has no function.
 
-ghost use Rattle.std.specs.Prelude.{◌≡◌, ◌↔◌, ◌<◌, IsTrue, length};
-ghost use Rattle.cfi_judge.specs.Reached.{IsLined, state_of};
+ghost use Rattle.std.specs.Prelude.{◌≡◌, ◌↔◌, ◌≤◌, ℕ, List, IsTrue, length};
+ghost use Rattle.cfi_judge.specs.Reached.{state_of};
 ghost use Rattle.cfi_judge.specs.inner.Log.{IsThere, LacksBy};
+ghost use Rattle.cfi_judge.specs.inner.Span.{IsAhead, IsSpan};
 ghost use Rattle.cfi_ledger.specs.Roster.{loaded_in_roster};
-ghost use Rattle.cfi_model.specs.Log.{last_policy};
 ghost use Rattle.cfi_modules.specs.Entry.{HasAddresses, HasNoneOf, IsGlobal};
+ghost use Rattle.cfi_unit.specs.declared.log.Log.{Log as AnyLog};
 ghost use Rattle.cfi_valid.specs.Course.{Course};
 ghost use Rattle.cfi_valid.specs.Loaded.{loaded_by};
-ghost use Rattle.cfi_valid.specs.Log.{HasNoFunction, HoldsInSpan, next_policy};
+ghost use Rattle.cfi_valid.specs.Log.{HasNoFunction, HoldsInSpan};
 
-use crate::log::policy_after;
 use crate::reached::Reached;
 use cfi_aux::Placed;
 use cfi_ledger::Roster;
@@ -18,29 +18,56 @@ use cfi_modules::{first_global, loaded_have_entries};
 use cfi_plan::ModuleLine;
 use cfi_unit::Log;
 
-/// The last policy that is logged.
-pub(crate) fn last_policy(log: &[Log]) -> u32
-    ensures { result ≡ last_policy log.now }
-{
-    let mut last = 0;
-    for entry in log {
-        last = policy_after(last, entry);
-    }
-    last
+/// The policies under which an entry of a log can have come.
+#[derive(Clone, Copy)]
+pub(crate) struct Span {
+    /// The last one that is logged before it.
+    pub least: u32,
+    /// The next one that is logged after it, or else the one in force.
+    pub most: u32,
 }
 
-/// The next policy that is logged, or else the one in force.
-pub(crate) fn next_policy(force: u32, log: &[Log]) -> u32
-    ensures { result ≡ next_policy force log.now }
+/// The next policy that is logged from a place of a log on, or else the one in force.
+#[derive(Clone, Copy)]
+pub(crate) struct Ahead {
+    /// The policy.
+    pub policy: u32,
+    /// The place of its entry, or else the end of the log.
+    pub place: usize,
+}
+
+/// The next policy that is logged, from a place on.
+pub(crate) fn ahead_of(force: u32, log: &[Log], from: usize) -> Ahead
+    requires { from ≤ length log.now }
+    ensures next { IsAhead force log.now from result }
+    ensures far { from ≤ result.place }
 {
-    for entry in log {
-        match entry {
-            Log::Pick { policy, .. } => return *policy,
-            Log::Open { policy, .. } => return *policy,
+    for place in from..log.len() {
+        match log[place] {
+            Log::Pick { policy, .. } => return Ahead { policy, place },
+            Log::Open { policy, .. } => return Ahead { policy, place },
             Log::Cause { .. } => {}
         }
     }
-    force
+    Ahead {
+        policy: force,
+        place: log.len(),
+    }
+}
+
+impl Ahead {
+    /// The same from a later place on. No entry is looked at twice.
+    pub(crate) fn or_from(self, force: u32, log: &[Log], from: usize) -> Ahead
+        requires within { from ≤ length log.now }
+        requires next { IsAhead force log.now from self }
+        ensures next { IsAhead force log.now from result }
+        ensures far { from ≤ result.place }
+    {
+        if from <= self.place {
+            return self;
+        }
+        ahead_of(force, log, from)
+    }
 }
 
 // The module has no Global function.
@@ -64,7 +91,6 @@ fn is_bare_at(line: &ModuleLine, placed: &Placed, number: u32, policy: u32) -> b
 
 // A module of this number is loaded by the policy, and has none.
 fn has_no_function(roster: &Roster, number: u32, policy: u32) -> bool
-    requires { IsLined roster.now }
     ensures { IsTrue result ↔ HasNoFunction
         (loaded_by policy (loaded_in_roster roster.now)) number }
 {
@@ -80,22 +106,17 @@ fn has_no_function(roster: &Roster, number: u32, policy: u32) -> bool
 }
 
 // By the last policy of a span there is such a module, and the span has a policy.
-fn lacks_by(roster: &Roster, number: u32, least: u32, most: u32) -> bool
-    requires { IsLined roster.now }
-    ensures { IsTrue result ↔ LacksBy least most (loaded_in_roster roster.now) number }
+fn lacks_by(roster: &Roster, number: u32, span: Span) -> bool
+    ensures { IsTrue result ↔ LacksBy span.least span.most (loaded_in_roster roster.now) number }
 {
-    least <= most && has_no_function(roster, number, most)
+    span.least <= span.most && has_no_function(roster, number, span.most)
 }
 
-/// Whether some policy of the span of the entry at a place of a log finds a module of this number loaded that has no
-/// Global function.
-pub(crate) fn lacks_function(end: &Reached, log: &[Log], at: usize, number: u32) -> bool
-    requires lined { IsLined end.now.roster }
-    requires within { at < length log.now }
-    ensures { (c : Course) → c.end ≡ state_of end.now → IsTrue result ↔ HoldsInSpan
-        c log.now at (λ loaded. HasNoFunction loaded number) }
+/// Whether some policy of the span of an entry finds a module of this number loaded that has no Global function.
+pub(crate) fn lacks_function(end: &Reached, span: Span, number: u32) -> bool
+    ensures { (c : Course) (log : List AnyLog) (at : ℕ) → c.end ≡ state_of end.now →
+        IsSpan end.now.policy log at span → IsTrue result ↔
+        HoldsInSpan c log at (λ loaded. HasNoFunction loaded number) }
 {
-    let least = last_policy(&log[..at]);
-    let most = next_policy(end.policy, &log[at + 1..]);
-    lacks_by(&end.roster, number, least, most)
+    lacks_by(&end.roster, number, span)
 }

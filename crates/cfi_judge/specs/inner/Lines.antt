@@ -16,7 +16,8 @@ use Rattle.cfi_judge.specs.inner.Faults.{Refutes}
 
 -- what a line changes: a case a line
 abbrev pub change_of : JournalLine → Change
-change_of (LoadOk number epoch policy) = changes.Module number epoch policy
+change_of (LoadOk number epoch policy) =
+    changes.Module (record { number = number; epoch = epoch; policy = policy })
 change_of (LoadAgain number policy) = changes.Nothing
 change_of (LoadFull number) = changes.Nothing
 change_of (LoadPlace number fault) = changes.Nothing

@@ -12,8 +12,8 @@ use Rattle.cfi_judge.specs.declared.trial.Trial.{Trial}
 
 -- what an outcome says of a part in a course: a case an outcome
 abbrev pub HasOutcome : Course → GuestPart → Outcome → Type 0
-HasOutcome c part Other = HasEndedReplay c part → ⊥
-HasOutcome c part Steps = HasEndedReplay c part × (FitsEndedSteps c part → ⊥)
+HasOutcome c part Other = ¬ HasEndedReplay c part
+HasOutcome c part Steps = HasEndedReplay c part × (¬ FitsEndedSteps c part)
 HasOutcome c part Same = HasEndedReplay c part × FitsEndedSteps c part
 
 -- the first guest whose steps do not fit, with one guest more; a replay that comes to something else ends it

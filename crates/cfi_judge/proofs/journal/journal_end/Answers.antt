@@ -1,32 +1,14 @@
-use Rattle.cfi_judge.proofs.WalkLemmas.{force_fault, force_ok, never_line, never_lines, walk_stopped}
+use Rattle.std.proofs.lemmas.Result.{IfOk-weaker}
+use Rattle.cfi_judge.proofs.WalkLemmas.{never_lines}
+use Rattle.cfi_judge.specs.Reached.{StandsIn}
+use Rattle.cfi_judge.specs.inner.Reached.{IsReached}
 use Rattle.cfi_judge.proofs.journal.journal_end.Goals as goal
 
-pub returns-in-Ok-clause-ok : goal.returns-in-Ok-clause-ok
-returns-in-Ok-clause-ok c =
-    force_ok c.args.plan.now c.args.modules.now c.args.report.now c.args.roster c.requires.started c.as_slice.result.now
-    c.as_slice.ensures c.in-Ok.end c.in-Ok.ensures.ok c.with_force.result c.with_force.ensures.same
-    c.with_force.ensures.ok
+pub returns-clause-stands : goal.returns-clause-stands
+returns-clause-stands c =
+    IfOk-weaker c.end_reached.result (IsReached c.args.plan.now c.args.modules.now) (StandsIn c.args.plan.now)
+    (λ end is. is.stands) c.end_reached.ensures.reached
 
-pub returns-in-Ok-clause-fault : goal.returns-in-Ok-clause-fault
-returns-in-Ok-clause-fault c =
-    force_fault c.args.plan.now c.args.modules.now c.args.report.now c.args.roster c.requires.started
-    c.as_slice.result.now c.as_slice.ensures c.in-Ok.end c.in-Ok.ensures.ok c.with_force.result
-    c.with_force.ensures.fault c.with_force.ensures.other
-
-pub returns-in-Ok-clause-only : goal.returns-in-Ok-clause-only
-returns-in-Ok-clause-only c =
-    never_lines c.args.plan.now c.args.modules.now c.args.report.now c.with_force.result
-    (force_fault c.args.plan.now c.args.modules.now c.args.report.now c.args.roster c.requires.started
-    c.as_slice.result.now c.as_slice.ensures c.in-Ok.end c.in-Ok.ensures.ok c.with_force.result
-    c.with_force.ensures.fault c.with_force.ensures.other)
-
-pub returns-in-Err-clause-fault : goal.returns-in-Err-clause-fault
-returns-in-Err-clause-fault c =
-    walk_stopped c.args.plan.now c.args.modules.now c.args.report.now c.args.roster c.requires.started
-    c.as_slice.result.now c.as_slice.ensures c.in-Err.fault c.in-Err.ensures.fault
-
-pub returns-in-Err-clause-only : goal.returns-in-Err-clause-only
-returns-in-Err-clause-only c =
-    never_line c.args.plan.now c.args.modules.now c.args.report.now c.in-Err.fault
-    (walk_stopped c.args.plan.now c.args.modules.now c.args.report.now c.args.roster c.requires.started
-    c.as_slice.result.now c.as_slice.ensures c.in-Err.fault c.in-Err.ensures.fault)
+pub returns-clause-only : goal.returns-clause-only
+returns-clause-only c =
+    never_lines c.args.plan.now c.args.modules.now c.args.report.now c.end_reached.result c.end_reached.ensures.fault

@@ -1,15 +1,31 @@
-use Rattle.std.proofs.lemmas.Result.{err_from_is_err_and}
+use Rattle.cfi_valid.specs.Valid.{HasGuests, course_of}
 use Rattle.cfi_judge.specs.Reached.{state_of}
-use Rattle.cfi_judge.proofs.JudgeLemmas.{to_journal}
+use Rattle.cfi_judge.proofs.JudgeLemmas.{to_guests}
+use Rattle.cfi_judge.proofs.RefutesLemmas.{no_of, not_answered, yes_of}
 use Rattle.cfi_judge.proofs.judged.end_of.Goals as goal
 
-pub returns-in_err-starts-clause-fault : goal.returns-in_err-starts-clause-fault
-returns-in_err-starts-clause-fault c =
-    let p = err_from_is_err_and c.from_residual.result c.from_residual.ensures.1 in
-    rw (p.1, p.2) (c.in_err-starts.ensures.fault c.args.report.now)
+-- the script is another
+pub returns-then-not-called-clause-fault : goal.returns-then-not-called-clause-fault
+returns-then-not-called-clause-fault c = (
+  state_of c.in_ok-ending.ending.reached,
+  c.in_ok-ending.ensures.ok.holds,
+  not_answered _ _ c.if-not-called.true c.in_ok-called.ensures,
+)
 
--- the modules and the journal hold
+-- the guests are others
+pub returns-then-not-ending-clause-fault : goal.returns-then-not-ending-clause-fault
+returns-then-not-ending-clause-fault c =
+    let end = state_of c.in_ok-ending.ending.reached in
+    let course = course_of c.args.plan.now c.args.modules.now c.args.report.now end in (
+      end,
+      record { before = c.in_ok-ending.ensures.ok.holds; script = c.in_ok-called.ensures.0 c.if-not-called.false },
+      not_answered c.in_ok-ending.ending.has_guests (HasGuests course c.args.report.now)
+          (no_of c.in_ok-ending.ending.has_guests c.if-not-ending.true) c.in_ok-ending.ensures.ok.guests,
+    )
+
+-- the script and the guests hold
 pub returns-clause-ok : goal.returns-clause-ok
 returns-clause-ok c =
-    to_journal c.args.plan.now c.args.modules.now c.args.report.now (c.in_ok-listed.ensures.0 c.if-not-listed.false)
-    (state_of c.in_ok-end.end) c.in_ok-end.ensures.ok
+    to_guests c.args.plan.now c.args.modules.now c.args.report.now (state_of c.in_ok-ending.ending.reached)
+    c.in_ok-ending.ensures.ok.holds (c.in_ok-called.ensures.0 c.if-not-called.false)
+    (c.in_ok-ending.ensures.ok.guests.0 (yes_of c.in_ok-ending.ending.has_guests c.if-not-ending.false))

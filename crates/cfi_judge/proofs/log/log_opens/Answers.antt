@@ -1,7 +1,7 @@
 use Rattle.cfi_ledger.specs.Roster.{loaded_in_roster}
 use Rattle.cfi_judge.specs.inner.Log.{HasOpens}
 use Rattle.cfi_judge.proofs.LogLemmas.{opens_all}
-use Rattle.cfi_judge.proofs.YesLemmas.{yes}
+use Rattle.cfi_judge.proofs.RefutesLemmas.{yes}
 use Rattle.cfi_judge.proofs.log.log_opens.Goals as goal
 
 pub returns : goal.returns

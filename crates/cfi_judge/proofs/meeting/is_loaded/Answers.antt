@@ -1,7 +1,7 @@
 use Rattle.cfi_ledger.specs.Roster.{loaded_in_roster}
 use Rattle.cfi_valid.specs.Loaded.{IsLoaded}
 use Rattle.cfi_judge.proofs.MeetingLemmas.{is_absent, is_listed}
-use Rattle.cfi_judge.proofs.YesLemmas.{refuted, yes}
+use Rattle.cfi_judge.proofs.RefutesLemmas.{refuted, yes}
 use Rattle.cfi_judge.proofs.meeting.is_loaded.Goals as goal
 
 pub returns-in-Some : goal.returns-in-Some

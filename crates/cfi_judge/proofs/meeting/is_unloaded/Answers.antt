@@ -2,7 +2,7 @@ use Rattle.std.proofs.Common.{arith}
 use Rattle.cfi_ledger.specs.Roster.{loaded_in_roster}
 use Rattle.cfi_valid.specs.Joining.{IsUnloaded}
 use Rattle.cfi_judge.proofs.MeetingLemmas.{again_not_unloaded, full_not_unloaded, unloaded}
-use Rattle.cfi_judge.proofs.YesLemmas.{refuted, yes}
+use Rattle.cfi_judge.proofs.RefutesLemmas.{refuted, yes}
 use Rattle.cfi_judge.proofs.meeting.is_unloaded.Goals as goal
 
 pub returns-in-Again : goal.returns-in-Again

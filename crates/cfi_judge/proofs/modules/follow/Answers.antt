@@ -3,7 +3,7 @@ use Rattle.cfi_judge.specs.declared.told.Told.{Told}
 use Rattle.cfi_judge.specs.inner.Next.{Takes}
 use Rattle.cfi_judge.specs.inner.Told.{told_origin}
 use Rattle.cfi_judge.proofs.FollowLemmas.{drop_at, drop_here, none_follows, one_follows}
-use Rattle.cfi_judge.proofs.YesLemmas.{refuted}
+use Rattle.cfi_judge.proofs.RefutesLemmas.{refuted}
 use Rattle.cfi_judge.proofs.modules.follow.Goals as goal
 
 abbrev none : Told

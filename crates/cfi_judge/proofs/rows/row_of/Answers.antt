@@ -1,7 +1,7 @@
 use Rattle.std.proofs.Common.{◌+◌, List, sym, subst, ◌∙◌}
 use Rattle.cfi_ledger.specs.Roster.{Roster, loaded_in_roster}
 use Rattle.cfi_judge.specs.inner.Rows.{IsMeeting}
-use Rattle.cfi_judge.specs.declared.rows.Meeting.{Meeting}
+use Rattle.cfi_judge.specs.declared.meeting.Meeting.{Meeting}
 use Rattle.cfi_judge.proofs.RowLemmas.{IsRowTo, row_more}
 use Rattle.cfi_judge.proofs.rows.row_of.Goals as goal
 

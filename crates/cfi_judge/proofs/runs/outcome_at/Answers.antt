@@ -1,6 +1,6 @@
 use Rattle.cfi_valid.specs.Parts.{FitsEndedSteps}
 use Rattle.cfi_judge.proofs.RunLemmas.{has_run, not_ended}
-use Rattle.cfi_judge.proofs.YesLemmas.{not_answered}
+use Rattle.cfi_judge.proofs.RefutesLemmas.{not_answered}
 use Rattle.cfi_judge.proofs.runs.outcome_at.Goals as goal
 
 pub returns-then-not-has_ended : goal.returns-then-not-has_ended

@@ -2,7 +2,7 @@ use Rattle.std.proofs.Common.{ap}
 use Rattle.cfi_plan.specs.declared.journal.ModuleLine.{ModuleLine}
 use Rattle.cfi_judge.specs.inner.Told.{told_origin}
 use Rattle.cfi_judge.proofs.NextLemmas.{line_told}
-use Rattle.cfi_judge.proofs.YesLemmas.{not_answered, refuted}
+use Rattle.cfi_judge.proofs.RefutesLemmas.{not_answered, refuted}
 use Rattle.cfi_judge.proofs.next.Next.has_line.Goals as goal
 
 pub returns-then-line-told-clause-same : goal.returns-then-line-told-clause-same

@@ -1,11 +1,9 @@
-use Rattle.std.proofs.Common.{◌≡◌, ◌≤◌, List, length, Some, ap, subst, arith}
-use Rattle.std.specs.List.{slice_get}
+use Rattle.std.proofs.Common.{◌≤◌, List, length, ap, subst, arith}
 use Rattle.cfi_report.specs.declared.report.GuestPart.{GuestPart}
 use Rattle.cfi_judge.specs.Judge.{HasItsLog}
 use Rattle.cfi_judge.specs.inner.Trial.{course_in}
-use Rattle.cfi_judge.proofs.ItemLemmas.{item_there}
-use Rattle.cfi_judge.proofs.PartLemmas.{all_hold, first_part, none_first, one_more}
-use Rattle.cfi_judge.proofs.YesLemmas.{not_answered}
+use Rattle.cfi_judge.proofs.PartLemmas.{all_hold, first_part, none_first, one_more, part_there}
+use Rattle.cfi_judge.proofs.RefutesLemmas.{not_answered}
 use Rattle.cfi_judge.proofs.trial.Trial.first_unlogged.Goals as goal
 
 pub loop-number-init : goal.loop-number-init
@@ -26,8 +24,8 @@ returns-then-not-is_part_logged-clause-some c =
     let holds = HasItsLog (course_in c.args.self.now) in
     let n = c.loop-number.number in
     let part = c.index-parts-number.result in
-    let there = subst (λ (parts : List GuestPart). slice_get parts n ≡ Some part) c.as_slice-parts.ensures
-    (item_there c.as_slice-parts.result.now n part c.loop-number-test.true c.index-parts-number.is) in
+    let there = part_there report c.as_slice-parts.result.now c.as_slice-parts.ensures n part c.loop-number-test.true
+    c.index-parts-number.is in
     first_part report holds n c.loop-number.invariant part there
     (not_answered c.is_part_logged.result (holds n part) c.if-not-is_part_logged.true c.is_part_logged.ensures)
 
@@ -37,8 +35,8 @@ loop-number-preserved c =
     let holds = HasItsLog (course_in c.args.self.now) in
     let n = c.loop-number.number in
     let part = c.index-parts-number.result in
-    let there = subst (λ (parts : List GuestPart). slice_get parts n ≡ Some part) c.as_slice-parts.ensures
-    (item_there c.as_slice-parts.result.now n part c.loop-number-test.true c.index-parts-number.is) in
+    let there = part_there report c.as_slice-parts.result.now c.as_slice-parts.ensures n part c.loop-number-test.true
+    c.index-parts-number.is in
     one_more report holds n c.loop-number.invariant part there
     (c.is_part_logged.ensures.0 c.if-not-is_part_logged.false)
 

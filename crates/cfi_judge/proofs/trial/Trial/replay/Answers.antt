@@ -31,7 +31,7 @@ replay_in-requires-clause-setting c =
     c.requires.trial.can c.requires.trial.journal in
     let size : c.unwrap-layout.result ≡ t.plan.now.code_words = search rules in
     record {
-      roster = c.requires.trial.stands;
+      roster = c.requires.trial.reached.stands;
       order = come;
       few = few_policies t.plan.now t.modules.now t.report.now (state_of t.end.now) c.requires.trial.can
           c.requires.trial.journal;

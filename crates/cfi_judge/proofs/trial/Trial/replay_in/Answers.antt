@@ -1,12 +1,10 @@
-use Rattle.std.proofs.Common.{◌≡◌, ◌≤◌, List, length, Some, None, refl, sym, ap, subst, ◌∙◌}
-use Rattle.std.specs.List.{slice_get}
+use Rattle.std.proofs.Common.{◌≡◌, ◌≤◌, List, length, Some, None, refl, sym, subst, ◌∙◌}
 use Rattle.std.proofs.lemmas.Result.{err_from_is_err_and}
-use Rattle.cfi_ledger.specs.Roster.{Roster, loaded_in_roster}
 use Rattle.cfi_report.specs.declared.report.GuestPart.{GuestPart}
 use Rattle.cfi_judge.specs.Reached.{state_of}
 use Rattle.cfi_judge.specs.inner.Trial.{course_in}
-use Rattle.cfi_judge.proofs.ItemLemmas.{item_there}
-use Rattle.cfi_judge.proofs.RunLemmas.{GoesOn, HasReplayed, all_replayed, can_replay, goes_on, none_replayed, steps_differ}
+use Rattle.cfi_judge.proofs.PartLemmas.{part_there}
+use Rattle.cfi_judge.proofs.RunLemmas.{GoesOn, HasReplayed, all_replayed, can_replay, goes_on, none_replayed, set_course, steps_differ}
 use Rattle.cfi_judge.proofs.trial.Trial.replay_in.Goals as goal
 
 pub loop-number-init : goal.loop-number-init
@@ -18,30 +16,24 @@ outcome_of-requires-clause-can c =
     let t = c.args.self.now in
     let n = c.loop-number.number in
     let part = c.index-parts-number.result in
-    let there = subst (λ (parts : List GuestPart). slice_get parts n ≡ Some part) c.as_slice-parts.ensures
-    (item_there c.as_slice-parts.result.now n part c.loop-number-test.true c.index-parts-number.is) in
     can_replay c.args.setting.now (course_in t) n part.log (sym c.requires.here.force_is)
-    (c.requires.before.logs n part there)
+    (c.requires.before.logs n part
+    (part_there t.report.now c.as_slice-parts.result.now c.as_slice-parts.ensures n part c.loop-number-test.true
+    c.index-parts-number.is))
 
 -- a replay that comes to something else
 pub returns-in_err-kept-clause-fault : goal.returns-in_err-kept-clause-fault
 returns-in_err-kept-clause-fault c =
     let t = c.args.self.now in
-    let plan = t.plan.now in
-    let modules = t.modules.now in
-    let report = t.report.now in
-    let end = state_of t.end.now in
     let n = c.loop-number.number in
     let part = c.index-parts-number.result in
-    let there = subst (λ (parts : List GuestPart). slice_get parts n ≡ Some part) c.as_slice-parts.ensures
-    (item_there c.as_slice-parts.result.now n part c.loop-number-test.true c.index-parts-number.is) in
-    let outcome = c.in_ok-outcome.ensures (course_in t) (record {
-      plan_is = sym c.requires.here.plan_is;
-      loaded_is = ap (λ (r : Roster). loaded_in_roster r) (sym c.requires.here.roster_is);
-    }) refl in
-    let fault = subst (GoesOn plan modules report end c.requires.before n) (sym c.kept_with.ensures ∙ c.in_err-kept.was)
-    (goes_on plan modules report end c.requires.before n part there c.loop-number.kept c.in_ok-outcome.outcome
-    c.loop-number.invariant outcome) in
+    let there = part_there t.report.now c.as_slice-parts.result.now c.as_slice-parts.ensures n part
+    c.loop-number-test.true c.index-parts-number.is in
+    let on = goes_on t.plan.now t.modules.now t.report.now (state_of t.end.now) c.requires.before n part there
+    c.loop-number.kept c.in_ok-outcome.outcome c.loop-number.invariant
+    (c.in_ok-outcome.ensures (course_in t) (set_course t c.args.setting.now c.requires.here) refl) in
+    let fault = subst (GoesOn t.plan.now t.modules.now t.report.now (state_of t.end.now) c.requires.before n)
+    (sym c.kept_with.ensures ∙ c.in_err-kept.was) on in
     let p = err_from_is_err_and c.from_residual-in_err-kept.result c.from_residual-in_err-kept.ensures.1 in
     rw (p.1, p.2) fault
 
@@ -49,21 +41,15 @@ returns-in_err-kept-clause-fault c =
 pub loop-number-preserved : goal.loop-number-preserved
 loop-number-preserved c =
     let t = c.args.self.now in
-    let plan = t.plan.now in
-    let modules = t.modules.now in
-    let report = t.report.now in
-    let end = state_of t.end.now in
     let n = c.loop-number.number in
     let part = c.index-parts-number.result in
-    let there = subst (λ (parts : List GuestPart). slice_get parts n ≡ Some part) c.as_slice-parts.ensures
-    (item_there c.as_slice-parts.result.now n part c.loop-number-test.true c.index-parts-number.is) in
-    let outcome = c.in_ok-outcome.ensures (course_in t) (record {
-      plan_is = sym c.requires.here.plan_is;
-      loaded_is = ap (λ (r : Roster). loaded_in_roster r) (sym c.requires.here.roster_is);
-    }) refl in
-    subst (GoesOn plan modules report end c.requires.before n) (sym c.kept_with.ensures ∙ c.in_ok-kept.was)
-    (goes_on plan modules report end c.requires.before n part there c.loop-number.kept c.in_ok-outcome.outcome
-    c.loop-number.invariant outcome)
+    let there = part_there t.report.now c.as_slice-parts.result.now c.as_slice-parts.ensures n part
+    c.loop-number-test.true c.index-parts-number.is in
+    let on = goes_on t.plan.now t.modules.now t.report.now (state_of t.end.now) c.requires.before n part there
+    c.loop-number.kept c.in_ok-outcome.outcome c.loop-number.invariant
+    (c.in_ok-outcome.ensures (course_in t) (set_course t c.args.setting.now c.requires.here) refl) in
+    subst (GoesOn t.plan.now t.modules.now t.report.now (state_of t.end.now) c.requires.before n)
+    (sym c.kept_with.ensures ∙ c.in_ok-kept.was) on
 
 -- the steps of one do not fit
 pub returns-in-Some-clause-fault : goal.returns-in-Some-clause-fault
