@@ -1,4 +1,4 @@
--- The report of a run is valid input of the judge.
+-- A valid report, as that of a run is, is valid input of the judge.
 use Rattle.std.proofs.Common.{◌≡◌, ◌∙◌, ◌%◌, ◌==◌, ℕ, zero, suc, Bool, true, false, List, [], ◌∷◌, ◌++◌, length, map, Option, Some, inl, inr, refl, sym, ap, ap₂, subst, arith, length-append, codes, if◌then◌else◌}
 use Rattle.std.specs.Prelude.{IsSomeAnd, slice_get}
 use Rattle.std.proofs.lemmas.List.{map-append}
@@ -12,12 +12,11 @@ use Rattle.cfi_commands.specs.declared.refusal.Refusal.TheVariants as refusals
 use Rattle.cfi_commands.specs.Modules.{AreModuleFiles}
 use Rattle.cfi_commands.specs.Reading.{IsFileFault, IsModuleFile}
 use Rattle.cfi_commands.proofs.ReadingLemmas.{found_is_it, refused_is_none}
-use Rattle.cfi_guest_run.specs.Concluded.{Conclusion}
 use Rattle.cfi_io.specs.Files.{Files}
 use Rattle.cfi_plan.specs.declared.plan.Plan.{Plan}
 use Rattle.cfi_report.proofs.LawLemmas.{same_text}
 use Rattle.cfi_report.specs.declared.report.Report.{Report}
-use Rattle.cfi_report.specs.Report.{report_text}
+use Rattle.cfi_report.specs.Report.{IsReport, report_text}
 use Rattle.cfi_request.specs.declared.command.Command.TheVariants as commands
 use Rattle.cfi_request.specs.Command.{IsCommand}
 use Rattle.cfi_request.specs.Plans.{begins_as_plan, files_in, files_and, judged_files, named_files, named_files_and, run_files}
@@ -26,8 +25,8 @@ use Rattle.cfi_request.specs.Words.{IsOperand}
 use Rattle.cfi_valid.specs.Valid.{IsValidReport}
 use Rattle.cfi_values.proofs.ThenLemmas.{ok_is}
 use Rattle.cfi_top.specs.Judging.{IsBadBehind, IsJudgement, IsPartAtFault, RefusesJudging, RefusesReport}
-use Rattle.cfi_top.specs.Reports.{HoldsReport}
-use Rattle.cfi_top.specs.Running.{IsPlanOf, IsRunOfFile}
+use Rattle.cfi_top.specs.Reports.{HoldsReport, IsOfRun}
+use Rattle.cfi_top.specs.Running.{IsPlanOf}
 use Rattle.cfi_top.specs.Top.{AreHeld, IsValid}
 
 -- ---- lists
@@ -94,46 +93,47 @@ one_plan bytes files plan other modules others (inr a) (inl b) =
 
 -- ---- no refusal stands
 
-module _ (bytes : List ℕ) (files : List (List ℕ)) (run : Conclusion) (is : IsRunOfFile bytes files run)
+module _ (bytes : List ℕ) (files : List (List ℕ)) (plan : Plan) (modules : List Module) (value : Report)
+    (plan_of : IsPlanOf bytes files plan modules) (is : IsReport value) (valid : IsValidReport plan modules value)
     (input report : List ℕ) where
   abbrev text : List ℕ
-  text = report_text run.report
+  text = report_text value
 
   abbrev others : List (List ℕ)
   others = files ++ text ∷ []
 
   -- no part of the report is at fault
-  no_part : (part : ReportPart) → IsPartAtFault run.plan run.modules text part → ⊥
+  no_part : (part : ReportPart) → IsPartAtFault plan modules text part → ⊥
   no_part part bad =
-      let same : bad.report ≡ run.report = same_text bad.report run.report bad.is is.readable (sym bad.spelled) in
-      bad.invalid (subst (λ (r : Report). IsValidReport run.plan run.modules r) (sym same) is.concluded.valid)
+      let same : bad.report ≡ value = same_text bad.report value bad.is is (sym bad.spelled) in
+      bad.invalid (subst (λ (r : Report). IsValidReport plan modules r) (sym same) valid)
 
-  report_stands : (name : List ℕ) (refusal : Refusal) → RefusesReport report run.plan run.modules text name refusal → ⊥
-  report_stands name (refusals.Report line) bad = bad.1.no_report run.report is.readable refl
+  report_stands : (name : List ℕ) (refusal : Refusal) → RefusesReport report plan modules text name refusal → ⊥
+  report_stands name (refusals.Report line) bad = bad.1.no_report value is refl
   report_stands name (refusals.Judge part) bad = no_part part bad.1
   report_stands name refusal bad = absurd bad
 
   no_judgement : (name : List ℕ) (refusal : Refusal)
-      → IsJudgement (λ plan modules t. RefusesReport report plan modules t name refusal) bytes others → ⊥
+      → IsJudgement (λ p ms t. RefusesReport report p ms t name refusal) bytes others → ⊥
   no_judgement name refusal bad =
       let same = snoc_same files bad.files text bad.text bad.split in
       let planned : IsPlanOf bytes files bad.plan bad.modules =
       subst (λ (fs : List (List ℕ)). IsPlanOf bytes fs bad.plan bad.modules) (sym same.0) bad.plan_of in
-      let one = one_plan bytes files bad.plan run.plan bad.modules run.modules planned is.plan_of in
+      let one = one_plan bytes files bad.plan plan bad.modules modules planned plan_of in
       let by_plan = subst (λ (p : Plan). RefusesReport report p bad.modules bad.text name refusal) one.0 bad.says in
-      let by_modules = subst (λ (ms : List Module). RefusesReport report run.plan ms bad.text name refusal) one.1 by_plan in
+      let by_modules = subst (λ (ms : List Module). RefusesReport report plan ms bad.text name refusal) one.1 by_plan in
       report_stands name refusal
-      (subst (λ (t : List ℕ). RefusesReport report run.plan run.modules t name refusal) (sym same.1) by_modules)
+      (subst (λ (t : List ℕ). RefusesReport report plan modules t name refusal) (sym same.1) by_modules)
 
-  no_bad : IsPlanOf bytes files run.plan run.modules → (name : List ℕ) (refusal : Refusal)
+  no_bad : IsPlanOf bytes files plan modules → (name : List ℕ) (refusal : Refusal)
       → IsBadBehind bytes others name refusal → ⊥
   no_bad (inl a) name refusal bad =
       let same = snoc_same files bad.files text bad.text bad.split in
-      let are = subst (λ (fs : List (List ℕ)). AreModuleFiles fs run.modules) same.0 a.are in
-      none_bad bad.files run.modules bad.bad.number refusal are bad.bad.first.here
+      let are = subst (λ (fs : List (List ℕ)). AreModuleFiles fs modules) same.0 a.are in
+      none_bad bad.files modules bad.bad.number refusal are bad.bad.first.here
   no_bad (inr b) name refusal bad = not_both (begins_as_plan bytes) bad.begins b.begins
 
-  no_fault : IsPlanOf bytes files run.plan run.modules → (name : List ℕ) (refusal : Refusal)
+  no_fault : IsPlanOf bytes files plan modules → (name : List ℕ) (refusal : Refusal)
       → RefusesJudging input report bytes others name refusal → ⊥
   no_fault (inl a) name (refusals.Plan fault) bad = let here = bad.1.is in let plan = a.is in absurd (cc)
   no_fault (inr b) name (refusals.Plan fault) bad = not_both (begins_as_plan bytes) bad.0 b.begins
@@ -146,7 +146,7 @@ module _ (bytes : List ℕ) (files : List (List ℕ)) (run : Conclusion) (is : I
 
   -- ---- its files
 
-  behind : IsPlanOf bytes files run.plan run.modules → judged_files bytes report ≡ run_files bytes ++ report ∷ []
+  behind : IsPlanOf bytes files plan modules → judged_files bytes report ≡ run_files bytes ++ report ∷ []
   behind (inl a) =
       ap (λ (b : Bool). if b then named_files_and bytes report
       else (if length bytes % 4 == 0 then report ∷ [] else [])) a.begins
@@ -162,7 +162,7 @@ module _ (bytes : List ℕ) (files : List (List ℕ)) (run : Conclusion) (is : I
   held_behind : (told : Files) → AreHeld told (run_files bytes) files → AreHeld told (report ∷ []) (text ∷ [])
       → AreHeld told (judged_files bytes report) others
   held_behind told named printed = record {
-    held = ap (λ (ns : List (List ℕ)). map told ns) (behind is.plan_of)
+    held = ap (λ (ns : List (List ℕ)). map told ns) (behind plan_of)
         ∙ map-append told (run_files bytes) (report ∷ [])
         ∙ ap₂ (λ (a b : List (Option (List ℕ))). a ++ b) named.held printed.held
         ∙ sym (map-append (λ (f : List ℕ). Some f) files (text ∷ []));
@@ -170,7 +170,7 @@ module _ (bytes : List ℕ) (files : List (List ℕ)) (run : Conclusion) (is : I
   }
 
   pub judge_unrefused : (name : List ℕ) (refusal : Refusal) → ¬ RefusesJudging input report bytes others name refusal
-  judge_unrefused name refusal = no_fault is.plan_of name refusal
+  judge_unrefused name refusal = no_fault plan_of name refusal
 
 -- the words are a command
 judge_fits : (input report : List ℕ) → IsOperand input → IsOperand report
@@ -181,14 +181,42 @@ judge_fits input report first second = record {
   number = tt;
 }
 
-pub judged_valid : (told : Files) (input report : List ℕ) → IsOperand input → IsOperand report
-    → HoldsReport told input report → IsValid (codes "judge" ∷ input ∷ report ∷ []) told
-judged_valid told input report first second holds = record {
-  command = commands.Judge input report;
-  fits = judge_fits input report first second;
-  files = holds.bytes ∷ [];
-  inputs = holds.file;
-  more = holds.files ++ report_text holds.run.report ∷ [];
-  others = held_behind holds.bytes holds.files holds.run holds.run_is input report told holds.named holds.printed;
-  unrefused = judge_unrefused holds.bytes holds.files holds.run holds.run_is input report;
-}
+pub valid_judged : (told : Files) (input report : List ℕ) → IsOperand input → IsOperand report
+    → HoldsReport IsValidReport told input report → IsValid (codes "judge" ∷ input ∷ report ∷ []) told
+valid_judged told input report first second holds =
+    let text = report_text holds.value in
+    record {
+      command = commands.Judge input report;
+      fits = judge_fits input report first second;
+      files = holds.bytes ∷ [];
+      inputs = holds.file;
+      more = holds.files ++ text ∷ [];
+      others = held_behind holds.bytes holds.files holds.plan holds.modules holds.value holds.plan_of holds.is holds.says
+          input report told holds.named holds.printed;
+      unrefused = judge_unrefused holds.bytes holds.files holds.plan holds.modules holds.value holds.plan_of holds.is
+          holds.says input report;
+    }
+
+-- the report of a run is valid for its plan and its modules
+run_valid : (plan : Plan) (modules : List Module) (report : Report) → IsOfRun plan modules report
+    → IsValidReport plan modules report
+run_valid plan modules report is =
+    subst (λ (r : Report). IsValidReport plan modules r) is.report_is
+    (subst (λ (ms : List Module). IsValidReport plan ms is.run.report) is.modules_are
+    (subst (λ (p : Plan). IsValidReport p is.run.modules is.run.report) is.plan_is is.concluded.valid))
+
+pub run_judged : (told : Files) (input report : List ℕ) → IsOperand input → IsOperand report
+    → HoldsReport IsOfRun told input report → IsValid (codes "judge" ∷ input ∷ report ∷ []) told
+run_judged told input report first second holds = valid_judged told input report first second (record {
+  bytes = holds.bytes;
+  file = holds.file;
+  files = holds.files;
+  named = holds.named;
+  plan = holds.plan;
+  modules = holds.modules;
+  plan_of = holds.plan_of;
+  value = holds.value;
+  is = holds.is;
+  says = run_valid holds.plan holds.modules holds.value holds.says;
+  printed = holds.printed;
+})
