@@ -21,6 +21,13 @@ MEANINGS = {
     "journal W load N versions N N":
         "no version was left for module {1}: guest {2} had published epoch {3} and nothing later",
     "journal W load N epochs": "the epochs were used up before module {1}",
+    "journal W load N retired": "{0} asked for module {1}, which was retired",
+    "journal W retire N ok N N": "{0} had module {1} retired, as epoch {2} and policy {3}",
+    "journal W retire N notlive": "{0} asked to retire module {1}, which was not loaded, or was retired before",
+    "journal W retire N inuse N": "module {1} was not retired: module {2} jumps into it",
+    "journal W retire N versions N N":
+        "no version was left to retire module {1}: guest {2} had published epoch {3} and nothing later",
+    "journal W retire N epochs": "the epochs were used up before module {1} was retired",
     "journal W refresh ok N": "a refresh made epoch {1}",
     "journal W refresh versions N N":
         "no version was left for a refresh: guest {1} had published epoch {2} and nothing later",

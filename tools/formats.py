@@ -105,7 +105,7 @@ FORMS = {
     "s": r"sim 1", "u": r"updater (?:idle|epoch|(?:testing|code|tary|bary) \d+)", "r": r"report 1",
     "f": rf"force {NUMBER} {NUMBER}",
     "m": rf"module ({NUMBER}) ({NAME}) ({NUMBER}) ({NUMBER}) ({ADDRESS}) ({NUMBER})",
-    "j": rf"journal (?:script|{NUMBER}) (?:load {NUMBER}|refresh)(?: [a-z]+)(?: {NUMBER})*",
+    "j": rf"journal (?:script|{NUMBER}) (?:(?:load|retire) {NUMBER}|refresh)(?: [a-z]+)(?: {NUMBER})*",
     "g": rf"guest ({NUMBER}) ({NAME})",
     "l": rf"pick {NUMBER} {NUMBER}|open {NUMBER} (?:{ADDRESS}|cause) {NUMBER}",
     "o": r"out (-|(?:[0-9a-f]{2})+)",
