@@ -9,7 +9,7 @@ use Rattle.std.proofs.lemmas.List.Quantifiers.{all_pairs_push}
 use Rattle.std.proofs.lemmas.List.Sums.{sum_by-append, fails_before_first}
 use Rattle.std.specs.List.{position, position_or_len}
 use Rattle.cfi_plan.specs.declared.line.Line.{Line}
-use Rattle.cfi_plan.specs.declared.line.Line.TheVariants.{Blank, Code, Versions, Epoch, Fuel, Module, Guest, Load, Refresh}
+use Rattle.cfi_plan.specs.declared.line.Line.TheVariants.{Blank, Code, Versions, Epoch, Fuel, Module, Guest, Load, Retire, Refresh}
 use Rattle.cfi_plan.specs.declared.plan.PlanModule.{PlanModule}
 use Rattle.cfi_plan.specs.declared.plan.ScriptLine.{ScriptLine}
 use Rattle.cfi_plan.specs.declared.plan.ScriptLine.TheVariants as script
@@ -30,6 +30,7 @@ IsLine (Fuel number) = Unit {0}
 IsLine (Module one) = IsNamed one
 IsLine (Guest entry) = is_name entry ≡ true
 IsLine (Load name) = Unit {0}
+IsLine (Retire name) = Unit {0}
 IsLine (Refresh count) = 1 ≤ count
 
 -- a draft within the limits
@@ -104,6 +105,7 @@ modules-push modules one s named new within =
 
 wider : (few many : ℕ) (line : ScriptLine) → few ≤ many → IsScriptLine few line → IsScriptLine many line
 wider few many (script.Load number) h l = omega arith
+wider few many (script.Retire number) h l = omega arith
 wider few many (script.Refresh count) h l = l
 
 script-more : (few many : ℕ) (lines : List ScriptLine) → few ≤ many → IsScript few lines → IsScript many lines
@@ -136,6 +138,20 @@ guests-push : (guests : List (List ℕ)) (entry : List ℕ) → AreGuests guests
 guests-push guests entry s named room = record {
   most = omega (arith, length-append guests (entry ∷ []));
   named = All-push (λ one. is_name one ≡ true) guests entry s.named named;
+}
+
+-- a line more of the script
+script-IsSound : (draft : PlanSoFar) (line : ScriptLine) → IsSound draft → IsScriptLine (length draft.modules) line
+    → length draft.script < 1000 → refreshes draft.script + refreshes_of line ≤ 10000
+    → IsSound (record draft { script = draft.script ++ line ∷ [] })
+script-IsSound draft line s l room most = record {
+  code = s.code;
+  versions = s.versions;
+  first = s.first;
+  fuel = s.fuel;
+  modules = s.modules;
+  guests = s.guests;
+  script = script-push _ draft.script line s.script l room most;
 }
 
 -- a line leaves a draft within the limits
@@ -196,23 +212,11 @@ line-IsSound draft (Guest entry) s l a w = record {
   guests = guests-push draft.guests entry s.guests l (below 16 _ w);
   script = s.script;
 }
-line-IsSound draft (Load name) s l a w = record {
-  code = s.code;
-  versions = s.versions;
-  first = s.first;
-  fuel = s.fuel;
-  modules = s.modules;
-  guests = s.guests;
-  script =
-      script-push _ draft.script _ s.script (found _ draft.modules a) (below 1000 _ w)
-      (omega (arith, s.script.most_refreshes));
-}
-line-IsSound draft (Refresh count) s l a w = let parts = and_parts _ _ w in record {
-  code = s.code;
-  versions = s.versions;
-  first = s.first;
-  fuel = s.fuel;
-  modules = s.modules;
-  guests = s.guests;
-  script = script-push _ draft.script _ s.script l (below 1000 _ parts.0) (at_most 10000 _ parts.1);
-}
+line-IsSound draft (Load name) s l a w =
+    script-IsSound draft (script.Load _) s (found _ draft.modules a) (below 1000 _ w)
+    (omega (arith, s.script.most_refreshes))
+line-IsSound draft (Retire name) s l a w =
+    script-IsSound draft (script.Retire _) s (found _ draft.modules a) (below 1000 _ w)
+    (omega (arith, s.script.most_refreshes))
+line-IsSound draft (Refresh count) s l a w = let parts = and_parts _ _ w in
+    script-IsSound draft (script.Refresh count) s l (below 1000 _ parts.0) (at_most 10000 _ parts.1)

@@ -8,7 +8,7 @@ use Rattle.cfi_word.specs.Table.{IsSize}
 use Rattle.cfi_text.specs.Decimal.{number_in}
 use Rattle.cfi_text.specs.Lines.{statement_of, numbered_lines}
 use Rattle.cfi_plan.specs.declared.line.Line.{Line}
-use Rattle.cfi_plan.specs.declared.line.Line.TheVariants.{Code, Versions, Epoch, Fuel, Module, Guest, Load, Refresh}
+use Rattle.cfi_plan.specs.declared.line.Line.TheVariants.{Code, Versions, Epoch, Fuel, Module, Guest, Load, Retire, Refresh}
 use Rattle.cfi_plan.specs.declared.plan.Plan.{Plan}
 use Rattle.cfi_plan.specs.declared.fault.PlanFault.{PlanFault}
 use Rattle.cfi_plan.specs.Draft.{PlanSoFar, empty, is_empty, is_astray, is_within, with_line, taken, plan_of, Fails}
@@ -69,15 +69,19 @@ load : (name : Option (List ℕ)) → SaysLine (option_map Load name)
 load None = none
 load (Some name) = record { line = tt }
 
+retire : (name : Option (List ℕ)) → SaysLine (option_map Retire name)
+retire None = none
+retire (Some name) = record { line = tt }
+
 pair : (keyword word : List ℕ) → SaysLine (pair_form keyword word)
 unfolding pair_form
 pair keyword word =
-    let other : Option Line = cond (bytes_eq keyword (codes "load")) (option_map Load (name_in word)) (numbered_form
-    keyword word) in
-    let others = choice (bytes_eq keyword (codes "load")) (option_map Load (name_in word)) (numbered_form keyword word)
-    (λ _. load (name_in word)) (λ _. numbered keyword (number_in word)) in
-    choice (bytes_eq keyword (codes "guest")) (option_map Guest (name_in word)) other
-    (λ _. guest_if word (is_name word) (λ h. h)) (λ _. others)
+    let retiring = choice (bytes_eq keyword (codes "retire")) (option_map Retire (name_in word)) (numbered_form keyword
+    word) (λ _. retire (name_in word)) (λ _. numbered keyword (number_in word)) in
+    let loading = choice (bytes_eq keyword (codes "load")) (option_map Load (name_in word)) _
+    (λ _. load (name_in word)) (λ _. retiring) in
+    choice (bytes_eq keyword (codes "guest")) (option_map Guest (name_in word)) _
+    (λ _. guest_if word (is_name word) (λ h. h)) (λ _. loading)
 
 started : (name file : List ℕ) (start : Option Bool) → is_name name ≡ true → is_file file ≡ true
     → SaysLine (option_and_then (λ s. Some (Module (record { name = name; file = file; start = s }))) start)

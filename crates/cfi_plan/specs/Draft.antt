@@ -2,7 +2,7 @@
 use Rattle.std.specs.Prelude.{◌≡◌, ℕ, ◌+◌, Bool, true, false, ◌&&◌, ◌==◌, ◌%◌, nat_le, nat_lt, List, [], ◌∷◌, ◌++◌, length, sum_by, position, if◌then◌else◌, Option, Some, None, is_some, is_none, unwrap_or, Result, Ok, Err}
 use Rattle.std.specs.Str.{bytes_eq}
 use Rattle.cfi_plan.specs.declared.line.Line.{Line}
-use Rattle.cfi_plan.specs.declared.line.Line.TheVariants.{Blank, Code, Versions, Epoch, Fuel, Module, Guest, Load, Refresh}
+use Rattle.cfi_plan.specs.declared.line.Line.TheVariants.{Blank, Code, Versions, Epoch, Fuel, Module, Guest, Load, Retire, Refresh}
 use Rattle.cfi_plan.specs.declared.plan.Plan.{Plan}
 use Rattle.cfi_plan.specs.declared.plan.PlanModule.{PlanModule}
 use Rattle.cfi_plan.specs.declared.plan.ScriptLine.{ScriptLine}
@@ -40,6 +40,7 @@ starts modules = sum_by (λ (one : PlanModule). one_if one.start) modules
 -- how many refreshes a line of the script makes, and the script
 abbrev pub refreshes_of : ScriptLine → ℕ
 refreshes_of (script.Load number) = 0
+refreshes_of (script.Retire number) = 0
 refreshes_of (script.Refresh count) = count
 
 -- how many refreshes the lines ask for in all
@@ -61,6 +62,7 @@ is_astray draft (Fuel number) = is_some draft.fuel
 is_astray draft (Module one) = is_some (module_of draft.modules one.name)
 is_astray draft (Guest entry) = false
 is_astray draft (Load name) = is_none (module_of draft.modules name)
+is_astray draft (Retire name) = is_none (module_of draft.modules name)
 is_astray draft (Refresh count) = false
 
 -- the line is within the limits
@@ -75,6 +77,7 @@ is_within draft (Module one) = nat_lt (length draft.modules) MAX_MODULES
     && nat_le (starts draft.modules + one_if one.start) MAX_STARTS
 is_within draft (Guest entry) = nat_lt (length draft.guests) GUESTS
 is_within draft (Load name) = nat_lt (length draft.script) MAX_SCRIPT
+is_within draft (Retire name) = nat_lt (length draft.script) MAX_SCRIPT
 is_within draft (Refresh count) =
     nat_lt (length draft.script) MAX_SCRIPT && nat_le (refreshes draft.script + count) MAX_REFRESHES
 
@@ -89,6 +92,9 @@ with_line draft (Module one) = record draft { modules = draft.modules ++ one ∷
 with_line draft (Guest entry) = record draft { guests = draft.guests ++ entry ∷ [] }
 with_line draft (Load name) = record draft {
   script = draft.script ++ script.Load (unwrap_or (module_of draft.modules name) 0) ∷ [];
+}
+with_line draft (Retire name) = record draft {
+  script = draft.script ++ script.Retire (unwrap_or (module_of draft.modules name) 0) ∷ [];
 }
 with_line draft (Refresh count) = record draft { script = draft.script ++ script.Refresh count ∷ [] }
 

@@ -3,7 +3,7 @@ use Rattle.std.specs.Prelude.{ℕ, Bool, true, false, ◌==◌, List, [], ◌∷
 use Rattle.std.specs.Option.{option_map}
 use Rattle.std.specs.Str.{bytes_eq}
 use Rattle.cfi_plan.specs.declared.line.Line.{Line}
-use Rattle.cfi_plan.specs.declared.line.Line.TheVariants.{Blank, Code, Versions, Epoch, Fuel, Module, Guest, Load, Refresh}
+use Rattle.cfi_plan.specs.declared.line.Line.TheVariants.{Blank, Code, Versions, Epoch, Fuel, Module, Guest, Load, Retire, Refresh}
 use Rattle.cfi_text.specs.Decimal.{number_in}
 use Rattle.cfi_text.specs.Names.{name_in, file_in}
 use Rattle.cfi_values.specs.Some.{◌>>=◌}
@@ -22,12 +22,13 @@ counted_form keyword number =
 abbrev pub numbered_form : (keyword word : List ℕ) → Option Line
 numbered_form keyword word = option_and_then (counted_form keyword) (number_in word)
 
--- a guest by its entry, a load by the module's name, or a line with a number
+-- a guest by its entry, a load or a retiring by the module's name, or a line with a number
 unfoldable pub pair_form : (keyword word : List ℕ) → Option Line
 pair_form keyword word =
     if bytes_eq keyword (codes "guest") then option_map Guest (name_in word)
     else (if bytes_eq keyword (codes "load") then option_map Load (name_in word)
-    else numbered_form keyword word)
+    else (if bytes_eq keyword (codes "retire") then option_map Retire (name_in word)
+    else numbered_form keyword word))
 
 -- whether a module is there from the start
 unfoldable pub start_in : (word : List ℕ) → Option Bool

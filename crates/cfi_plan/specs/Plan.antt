@@ -1,10 +1,10 @@
 -- What holds of each plan that is read, and is asked of each plan that a call takes: it is within the limits, its
--- modules differ in name, its names are names, and its script loads modules that are there.
+-- modules differ in name, its names are names, and its script loads and retires modules that are there.
 use Rattle.std.specs.Prelude.{◌≡◌, ◌≢◌, ℕ, ◌<◌, ◌≤◌, true, List, length, All, AllPairs}
 use Rattle.cfi_plan.specs.declared.plan.Plan.{Plan}
 use Rattle.cfi_plan.specs.declared.plan.PlanModule.{PlanModule}
 use Rattle.cfi_plan.specs.declared.plan.ScriptLine.{ScriptLine}
-use Rattle.cfi_plan.specs.declared.plan.ScriptLine.TheVariants.{Load, Refresh}
+use Rattle.cfi_plan.specs.declared.plan.ScriptLine.TheVariants.{Load, Retire, Refresh}
 use Rattle.cfi_word.specs.declared.limits.TheConstants.{MIN_VERSIONS, MAX_VERSIONS, MAX_EPOCH, MAX_FUEL, MAX_MODULES, MAX_STARTS, GUESTS, MAX_SCRIPT, MAX_REFRESHES}
 use Rattle.cfi_word.specs.Table.{IsSize}
 use Rattle.cfi_plan.specs.Draft.{starts, refreshes}
@@ -41,6 +41,7 @@ pub record AreGuests (guests : List (List ℕ)) : Type 0 where
 -- a line of a script over this many modules
 abbrev pub IsScriptLine : (modules : ℕ) → ScriptLine → Type 0
 IsScriptLine modules (Load number) = number < modules
+IsScriptLine modules (Retire number) = number < modules
 IsScriptLine modules (Refresh count) = 1 ≤ count
 
 -- a script over this many modules

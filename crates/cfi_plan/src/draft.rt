@@ -1,5 +1,6 @@
-ghost use Rattle.std.specs.Prelude.{◌≡◌, Ok, Err};
-ghost use Rattle.cfi_plan.specs.Draft.{PlanSoFar as Said, empty, taken, one_if, plan_of, Fails};
+ghost use Rattle.std.specs.Prelude.{◌≡◌, nat_lt, length, if◌then◌else◌, is_none, unwrap_or, Ok, Err};
+ghost use Rattle.cfi_plan.specs.declared.fault.PlanFault.TheVariants.{Syntax, Limit};
+ghost use Rattle.cfi_plan.specs.Draft.{PlanSoFar as Said, empty, taken, module_of, one_if, plan_of, Fails};
 ghost use Rattle.cfi_values.specs.Due.{Leaves};
 
 use crate::fault::PlanFault;
@@ -75,6 +76,7 @@ impl Draft {
             Line::Module(one) => self.add_module(alloc, number, one),
             Line::Guest(entry) => self.add_guest(number, entry),
             Line::Load(name) => self.add_load(number, name),
+            Line::Retire(name) => self.add_retire(number, name),
             Line::Refresh(count) => self.add_refreshes(number, count),
         }
     }
@@ -165,14 +167,32 @@ impl Draft {
     fn add_load(&mut self, number: u32, name: Text) -> Result<(), PlanFault>
         ensures { Leaves Fails result self.new (taken number self.old (Line.Load name)) }
     {
-        let Some(found) = number_of(&self.names, &name) else {
+        let found = self.called(number, &name)?;
+        self.script.push(ScriptLine::Load(found))?;
+        Ok(())
+    }
+
+    fn add_retire(&mut self, number: u32, name: Text) -> Result<(), PlanFault>
+        ensures { Leaves Fails result self.new (taken number self.old (Line.Retire name)) }
+    {
+        let found = self.called(number, &name)?;
+        self.script.push(ScriptLine::Retire(found))?;
+        Ok(())
+    }
+
+    // The module of this name, for a further line of the script.
+    fn called(&self, number: u32, name: &Text) -> Result<u32, PlanFault>
+        ensures { result ≡ (if is_none (module_of self.now.modules name.now) then Err (Syntax number)
+            else (if nat_lt (length self.now.script) MAX_SCRIPT
+            then Ok (unwrap_or (module_of self.now.modules name.now) 0) else Err (Limit number))) }
+    {
+        let Some(found) = number_of(&self.names, name) else {
             return Err(PlanFault::Syntax(number));
         };
         if self.script.len() >= MAX_SCRIPT {
             return Err(PlanFault::Limit(number));
         }
-        self.script.push(ScriptLine::Load(found))?;
-        Ok(())
+        Ok(found)
     }
 
     fn add_refreshes(&mut self, number: u32, count: u64) -> Result<(), PlanFault>

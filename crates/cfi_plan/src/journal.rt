@@ -17,7 +17,7 @@ pub struct ModuleLine {
     pub policy: u32,
 }
 
-/// Who asked for a load or a refresh.
+/// Who asked for a load, a retiring or a refresh.
 #[derive(Clone, Copy, Debug, PartialEq, Eq)]
 pub enum Who {
     /// The plan's script.
@@ -65,6 +65,10 @@ pub enum JournalLine {
     LoadEpochs {
         module: u32,
     },
+    /// The module was retired, and is not loaded again.
+    LoadRetired {
+        module: u32,
+    },
     /// The versions were refreshed.
     RefreshOk {
         epoch: u32,
@@ -76,6 +80,31 @@ pub enum JournalLine {
     },
     /// The epochs are used up.
     RefreshEpochs,
+    /// The module was retired, with this epoch and policy.
+    RetireOk {
+        module: u32,
+        epoch: u32,
+        policy: u32,
+    },
+    /// It is not live: not loaded, or retired before.
+    RetireNotLive {
+        module: u32,
+    },
+    /// A live module, of the number `user`, jumps into it.
+    RetireInUse {
+        module: u32,
+        user: u32,
+    },
+    /// A guest's quiet word is too old for the next version.
+    RetireVersions {
+        module: u32,
+        guest: u32,
+        quiet: u32,
+    },
+    /// The epochs are used up.
+    RetireEpochs {
+        module: u32,
+    },
 }
 
 /// A line of the journal.

@@ -26,6 +26,8 @@ pub enum Line {
     Guest(Text),
     /// Load the module of this name.
     Load(Text),
+    /// Retire the module of this name.
+    Retire(Text),
     /// Make this many refreshes.
     Refresh(u64),
 }
@@ -61,6 +63,9 @@ fn pair(alloc: Global, keyword: &[u8], word: &[u8]) -> Result<Option<Line>, Allo
     }
     if keyword == b"load".as_slice() {
         return Ok(name_of(alloc, word)?.map(Line::Load));
+    }
+    if keyword == b"retire".as_slice() {
+        return Ok(name_of(alloc, word)?.map(Line::Retire));
     }
     Ok(numbered(keyword, word))
 }

@@ -3,7 +3,7 @@ use cfi_values::{Items, Text};
 /// A module of a plan.
 #[derive(Debug, PartialEq, Eq, Drop)]
 pub struct PlanModule {
-    /// Its name, by which the script loads it.
+    /// Its name, by which the script loads and retires it.
     pub name: Text,
     /// The file that has it.
     pub file: Text,
@@ -16,6 +16,8 @@ pub struct PlanModule {
 pub enum ScriptLine {
     /// Load the module of this number.
     Load(u32),
+    /// Retire the module of this number.
+    Retire(u32),
     /// Make this many refreshes.
     Refresh(u32),
 }

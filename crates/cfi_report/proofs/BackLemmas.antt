@@ -12,14 +12,14 @@ use Rattle.cfi_text.proofs.HexLemmas.{length-hex_digits}
 use Rattle.cfi_plan.specs.declared.journal.Who.{Who}
 use Rattle.cfi_plan.specs.declared.journal.Who.TheVariants.{Script, Guest}
 use Rattle.cfi_plan.specs.declared.journal.JournalLine.{JournalLine}
-use Rattle.cfi_plan.specs.declared.journal.JournalLine.TheVariants.{LoadOk, LoadAgain, LoadFull, LoadPlace, LoadVerify, LoadVersions, LoadEpochs, RefreshOk, RefreshVersions, RefreshEpochs}
+use Rattle.cfi_plan.specs.declared.journal.JournalLine.TheVariants.{LoadOk, LoadAgain, LoadFull, LoadPlace, LoadVerify, LoadVersions, LoadEpochs, LoadRetired, RefreshOk, RefreshVersions, RefreshEpochs, RetireOk, RetireNotLive, RetireInUse, RetireVersions, RetireEpochs}
 use Rattle.cfi_unit.specs.declared.log.Log.TheVariants.{Pick, Open, Cause}
 use Rattle.cfi_unit.specs.declared.log.Stop.TheVariants.{Exit, Halt, Align, Fuel}
 use Rattle.cfi_report.specs.declared.line.Line.{Line}
 use Rattle.cfi_report.specs.declared.line.Line.TheVariants as line
 use Rattle.cfi_report.specs.Line.{field_text, who_field, what_fields, line_words}
 use Rattle.cfi_report.specs.Report.{IsField, IsLine}
-use Rattle.cfi_report.specs.inner.Form.{who_in, what_two, loaded_three, what_three, loaded_four, what_four, loaded_five, what_five, journal_form, lone_form, pair_form, stop_form, force_form, guest_form, pick_form, three_form, opened_form, four_form, module_form, seven_form, line_form}
+use Rattle.cfi_report.specs.inner.Form.{who_in, what_two, loaded_three, retired_three, called_three, what_three, loaded_four, called_four, what_four, loaded_five, retired_five, called_five, what_five, journal_form, lone_form, pair_form, stop_form, force_form, guest_form, pick_form, three_form, opened_form, four_form, module_form, seven_form, line_form}
 use Rattle.cfi_report.proofs.WordLemmas.{address_in-back, bytes_in-back, differs}
 
 -- who asked
@@ -49,7 +49,7 @@ module _ (who : Who) (asked : who_in (field_text (who_field who)) ≡ Some who) 
   journal-back : (what : JournalLine) → AllByRecursion IsField (what_fields what)
       → line_form (journal_words who what) ≡ journal_line who what
   unfolding four_form journal_form seven_form what_two what_three what_four what_five loaded_three loaded_four
-      loaded_five
+      loaded_five retired_three retired_five called_three called_four called_five
   journal-back (LoadOk n e p) h =
       rw (asked, small_number_in-back n h.1.0, small_number_in-back e h.1.1.1.0, small_number_in-back p h.1.1.1.1.0) refl
   journal-back (LoadAgain n p) h = rw (asked, small_number_in-back n h.1.0, small_number_in-back p h.1.1.1.0) refl
@@ -60,9 +60,17 @@ module _ (who : Who) (asked : who_in (field_text (who_field who)) ≡ Some who) 
   journal-back (LoadVersions n g q) h =
       rw (asked, small_number_in-back n h.1.0, small_number_in-back g h.1.1.1.0, small_number_in-back q h.1.1.1.1.0) refl
   journal-back (LoadEpochs n) h = rw (asked, small_number_in-back n h.1.0) refl
+  journal-back (LoadRetired n) h = rw (asked, small_number_in-back n h.1.0) refl
   journal-back (RefreshOk e) h = rw (asked, small_number_in-back e h.1.1.0) refl
   journal-back (RefreshVersions g q) h = rw (asked, small_number_in-back g h.1.1.0, small_number_in-back q h.1.1.1.0) refl
   journal-back RefreshEpochs h = rw asked refl
+  journal-back (RetireOk n e p) h =
+      rw (asked, small_number_in-back n h.1.0, small_number_in-back e h.1.1.1.0, small_number_in-back p h.1.1.1.1.0) refl
+  journal-back (RetireNotLive n) h = rw (asked, small_number_in-back n h.1.0) refl
+  journal-back (RetireInUse n u) h = rw (asked, small_number_in-back n h.1.0, small_number_in-back u h.1.1.1.0) refl
+  journal-back (RetireVersions n g q) h =
+      rw (asked, small_number_in-back n h.1.0, small_number_in-back g h.1.1.1.0, small_number_in-back q h.1.1.1.1.0) refl
+  journal-back (RetireEpochs n) h = rw (asked, small_number_in-back n h.1.0) refl
 
 -- an address is not the word `cause`
 not_cause : (n : ℕ) → hex8_text n ≡ codes "cause" → ⊥

@@ -8,14 +8,14 @@ use Rattle.cfi_text.specs.Decimal.{dec_text}
 use Rattle.cfi_plan.specs.declared.journal.Who.{Who}
 use Rattle.cfi_plan.specs.declared.journal.Who.TheVariants.{Script, Guest}
 use Rattle.cfi_plan.specs.declared.journal.JournalLine.{JournalLine}
-use Rattle.cfi_plan.specs.declared.journal.JournalLine.TheVariants.{LoadOk, LoadAgain, LoadFull, LoadPlace, LoadVerify, LoadVersions, LoadEpochs, RefreshOk, RefreshVersions, RefreshEpochs}
+use Rattle.cfi_plan.specs.declared.journal.JournalLine.TheVariants.{LoadOk, LoadAgain, LoadFull, LoadPlace, LoadVerify, LoadVersions, LoadEpochs, LoadRetired, RefreshOk, RefreshVersions, RefreshEpochs, RetireOk, RetireNotLive, RetireInUse, RetireVersions, RetireEpochs}
 use Rattle.cfi_unit.specs.declared.log.Log.TheVariants.{Pick, Open, Cause}
 use Rattle.cfi_unit.specs.declared.log.Stop.TheVariants.{Exit, Halt, Align, Fuel}
 use Rattle.cfi_report.specs.declared.line.Line.{Line}
 use Rattle.cfi_report.specs.declared.line.Line.TheVariants as line
 use Rattle.cfi_report.specs.Line.{field_text, who_field, what_fields, line_words}
 use Rattle.cfi_report.specs.Report.{IsField, IsLine}
-use Rattle.cfi_report.specs.inner.Form.{bytes_in, who_in, what_two, loaded_three, what_three, loaded_four, what_four, loaded_five, what_five, entry_form, journal_form, lone_form, pair_form, stop_form, force_form, guest_form, pick_form, three_form, opened_form, four_form, module_form, seven_form, line_form}
+use Rattle.cfi_report.specs.inner.Form.{bytes_in, who_in, what_two, loaded_three, retired_three, called_three, what_three, loaded_four, called_four, what_four, loaded_five, retired_five, called_five, what_five, entry_form, journal_form, lone_form, pair_form, stop_form, force_form, guest_form, pick_form, three_form, opened_form, four_form, module_form, seven_form, line_form}
 use Rattle.cfi_report.proofs.WordLemmas.{bytes_in-says}
 use Rattle.cfi_report.proofs.FormLemmas.{Says, nothing, keyed, twice, as_value, number, address, last_number, last_address, named, told}
 
@@ -46,64 +46,110 @@ unfolding what_two
 two-says verb end = twice (λ v e. IsWhat (v ∷ e ∷ [])) verb end _ _ _ _ (told _ RefreshEpochs ((tt, (tt, tt)), refl))
     (nothing _)
 
-loaded_three-says : (word end : List ℕ) (n : ℕ) → n < 2 ^ 32 → word ≡ dec_text n
-    → Says (IsWhat (codes "load" ∷ word ∷ end ∷ [])) (loaded_three end n)
-unfolding loaded_three
-loaded_three-says word end n fits e =
-    let P = λ (w : List ℕ). IsWhat (codes "load" ∷ word ∷ w ∷ []) in
-    keyed P end (codes "full") _ _ (told _ (LoadFull n) ((tt, (fits, (tt, tt))), rw e refl))
-    (keyed P end (codes "epochs") _ _ (told _ (LoadEpochs n) ((tt, (fits, (tt, tt))), rw e refl)) (nothing _))
+-- a call for a module, in three words
+
+module _ (word : List ℕ) (n : ℕ) (fits : n < 2 ^ 32) (e : word ≡ dec_text n) where
+  loaded_three-says : (end : List ℕ) → Says (IsWhat (codes "load" ∷ word ∷ end ∷ [])) (loaded_three end n)
+  unfolding loaded_three
+  loaded_three-says end =
+      let P = λ (w : List ℕ). IsWhat (codes "load" ∷ word ∷ w ∷ []) in
+      keyed P end (codes "full") _ _ (told _ (LoadFull n) ((tt, (fits, (tt, tt))), rw e refl))
+      (keyed P end (codes "epochs") _ _ (told _ (LoadEpochs n) ((tt, (fits, (tt, tt))), rw e refl))
+      (keyed P end (codes "retired") _ _ (told _ (LoadRetired n) ((tt, (fits, (tt, tt))), rw e refl)) (nothing _)))
+
+  retired_three-says : (end : List ℕ) → Says (IsWhat (codes "retire" ∷ word ∷ end ∷ [])) (retired_three end n)
+  unfolding retired_three
+  retired_three-says end =
+      let P = λ (w : List ℕ). IsWhat (codes "retire" ∷ word ∷ w ∷ []) in
+      keyed P end (codes "notlive") _ _ (told _ (RetireNotLive n) ((tt, (fits, (tt, tt))), rw e refl))
+      (keyed P end (codes "epochs") _ _ (told _ (RetireEpochs n) ((tt, (fits, (tt, tt))), rw e refl)) (nothing _))
+
+  called_three-says : (verb end : List ℕ) → Says (IsWhat (verb ∷ word ∷ end ∷ [])) (called_three verb end n)
+  unfolding called_three
+  called_three-says verb end =
+      let P = λ (v : List ℕ). IsWhat (v ∷ word ∷ end ∷ []) in
+      keyed P verb (codes "load") _ _ (loaded_three-says end)
+      (keyed P verb (codes "retire") _ _ (retired_three-says end) (nothing _))
 
 three-says : (verb word end : List ℕ) → Says (IsWhat (verb ∷ word ∷ end ∷ [])) (what_three verb word end)
 unfolding what_three
 three-says verb word end =
-    keyed (λ v. IsWhat (v ∷ word ∷ end ∷ [])) verb (codes "load") _ _
-    (number _ word _ (λ n fits e. loaded_three-says word end n fits e))
-    (twice (λ v w. IsWhat (v ∷ w ∷ end ∷ [])) verb word _ _ _ _
-    (last_number _ end RefreshOk (λ n fits e. ((tt, (tt, (fits, tt))), rw e refl))) (nothing _))
+    twice (λ v w. IsWhat (v ∷ w ∷ end ∷ [])) verb word _ _ _ _
+    (last_number _ end RefreshOk (λ n fits e. ((tt, (tt, (fits, tt))), rw e refl)))
+    (number _ word _ (λ n fits e. called_three-says word n fits e verb end))
 
-loaded_four-says : (word other end : List ℕ) (n m : ℕ) → n < 2 ^ 32 → word ≡ dec_text n → m < 2 ^ 32
-    → end ≡ dec_text m → Says (IsWhat (codes "load" ∷ word ∷ other ∷ end ∷ [])) (loaded_four other n m)
-unfolding loaded_four
-loaded_four-says word other end n m fits e fits' e' =
-    let P = λ (w : List ℕ). IsWhat (codes "load" ∷ word ∷ w ∷ end ∷ []) in
-    keyed P other (codes "again") _ _ (told _ (LoadAgain n m) ((tt, (fits, (tt, (fits', tt)))), rw (e, e') refl))
-    (keyed P other (codes "place") _ _ (told _ (LoadPlace n m) ((tt, (fits, (tt, (fits', tt)))), rw (e, e') refl))
-    (nothing _))
+-- in four
+
+module _ (word end : List ℕ) (n m : ℕ) (fits : n < 2 ^ 32) (e : word ≡ dec_text n) (fits' : m < 2 ^ 32)
+    (e' : end ≡ dec_text m) where
+  loaded_four-says : (other : List ℕ) → Says (IsWhat (codes "load" ∷ word ∷ other ∷ end ∷ [])) (loaded_four other n m)
+  unfolding loaded_four
+  loaded_four-says other =
+      let P = λ (w : List ℕ). IsWhat (codes "load" ∷ word ∷ w ∷ end ∷ []) in
+      keyed P other (codes "again") _ _ (told _ (LoadAgain n m) ((tt, (fits, (tt, (fits', tt)))), rw (e, e') refl))
+      (keyed P other (codes "place") _ _ (told _ (LoadPlace n m) ((tt, (fits, (tt, (fits', tt)))), rw (e, e') refl))
+      (nothing _))
+
+  called_four-says : (verb other : List ℕ) → Says (IsWhat (verb ∷ word ∷ other ∷ end ∷ []))
+      (called_four verb other n m)
+  unfolding called_four
+  called_four-says verb other =
+      keyed (λ v. IsWhat (v ∷ word ∷ other ∷ end ∷ [])) verb (codes "load") _ _ (loaded_four-says other)
+      (twice (λ v w. IsWhat (v ∷ word ∷ w ∷ end ∷ [])) verb other _ _ _ _
+      (told _ (RetireInUse n m) ((tt, (fits, (tt, (fits', tt)))), rw (e, e') refl)) (nothing _))
 
 four-says : (verb word other end : List ℕ) → Says (IsWhat (verb ∷ word ∷ other ∷ end ∷ []))
     (what_four verb word other end)
 unfolding what_four
 four-says verb word other end =
-    keyed (λ v. IsWhat (v ∷ word ∷ other ∷ end ∷ [])) verb (codes "load") _ _
-    (number _ word _ (λ n fits e. number _ end _ (λ m fits' e'. loaded_four-says word other end n m fits e fits' e')))
-    (twice (λ v w. IsWhat (v ∷ w ∷ other ∷ end ∷ [])) verb word _ _ _ _
+    twice (λ v w. IsWhat (v ∷ w ∷ other ∷ end ∷ [])) verb word _ _ _ _
     (number _ other _ (λ n fits e. number _ end _ (λ m fits' e'.
     told _ (RefreshVersions n m) ((tt, (tt, (fits, (fits', tt)))), rw (e, e') refl))))
-    (nothing _))
+    (number _ word _ (λ n fits e. number _ end _ (λ m fits' e'.
+    called_four-says word end n m fits e fits' e' verb other)))
 
-loaded_five-says : (word other first end : List ℕ) (n m k : ℕ) → n < 2 ^ 32 → word ≡ dec_text n → m < 2 ^ 32
-    → first ≡ dec_text m → k < 2 ^ 32 → end ≡ dec_text k
-    → Says (IsWhat (codes "load" ∷ word ∷ other ∷ first ∷ end ∷ [])) (loaded_five other n m k)
-unfolding loaded_five
-loaded_five-says word other first end n m k fits e fits' e' fits'' e'' =
-    let P = λ (w : List ℕ). IsWhat (codes "load" ∷ word ∷ w ∷ first ∷ end ∷ []) in
-    keyed P other (codes "ok") _ _ (told _ (LoadOk n m k)
-    ((tt, (fits, (tt, (fits', (fits'', tt))))), rw (e, e', e'') refl))
-    (keyed P other (codes "verify") _ _ (told _ (LoadVerify n m k)
-    ((tt, (fits, (tt, (fits', (fits'', tt))))), rw (e, e', e'') refl))
-    (keyed P other (codes "versions") _ _ (told _ (LoadVersions n m k)
-    ((tt, (fits, (tt, (fits', (fits'', tt))))), rw (e, e', e'') refl))
-    (nothing _)))
+-- in five
+
+module _ (word first end : List ℕ) (n m k : ℕ) (fits : n < 2 ^ 32) (e : word ≡ dec_text n) (fits' : m < 2 ^ 32)
+    (e' : first ≡ dec_text m) (fits'' : k < 2 ^ 32) (e'' : end ≡ dec_text k) where
+  loaded_five-says : (other : List ℕ)
+      → Says (IsWhat (codes "load" ∷ word ∷ other ∷ first ∷ end ∷ [])) (loaded_five other n m k)
+  unfolding loaded_five
+  loaded_five-says other =
+      let P = λ (w : List ℕ). IsWhat (codes "load" ∷ word ∷ w ∷ first ∷ end ∷ []) in
+      keyed P other (codes "ok") _ _ (told _ (LoadOk n m k)
+      ((tt, (fits, (tt, (fits', (fits'', tt))))), rw (e, e', e'') refl))
+      (keyed P other (codes "verify") _ _ (told _ (LoadVerify n m k)
+      ((tt, (fits, (tt, (fits', (fits'', tt))))), rw (e, e', e'') refl))
+      (keyed P other (codes "versions") _ _ (told _ (LoadVersions n m k)
+      ((tt, (fits, (tt, (fits', (fits'', tt))))), rw (e, e', e'') refl))
+      (nothing _)))
+
+  retired_five-says : (other : List ℕ)
+      → Says (IsWhat (codes "retire" ∷ word ∷ other ∷ first ∷ end ∷ [])) (retired_five other n m k)
+  unfolding retired_five
+  retired_five-says other =
+      let P = λ (w : List ℕ). IsWhat (codes "retire" ∷ word ∷ w ∷ first ∷ end ∷ []) in
+      keyed P other (codes "ok") _ _ (told _ (RetireOk n m k)
+      ((tt, (fits, (tt, (fits', (fits'', tt))))), rw (e, e', e'') refl))
+      (keyed P other (codes "versions") _ _ (told _ (RetireVersions n m k)
+      ((tt, (fits, (tt, (fits', (fits'', tt))))), rw (e, e', e'') refl))
+      (nothing _))
+
+  called_five-says : (verb other : List ℕ)
+      → Says (IsWhat (verb ∷ word ∷ other ∷ first ∷ end ∷ [])) (called_five verb other n m k)
+  unfolding called_five
+  called_five-says verb other =
+      let P = λ (v : List ℕ). IsWhat (v ∷ word ∷ other ∷ first ∷ end ∷ []) in
+      keyed P verb (codes "load") _ _ (loaded_five-says other)
+      (keyed P verb (codes "retire") _ _ (retired_five-says other) (nothing _))
 
 five-says : (verb word other first end : List ℕ)
     → Says (IsWhat (verb ∷ word ∷ other ∷ first ∷ end ∷ [])) (what_five verb word other first end)
 unfolding what_five
 five-says verb word other first end =
-    keyed (λ v. IsWhat (v ∷ word ∷ other ∷ first ∷ end ∷ [])) verb (codes "load") _ _
-    (number _ word _ (λ n fits e. number _ first _ (λ m fits' e'. number _ end _ (λ k fits'' e''.
-    loaded_five-says word other first end n m k fits e fits' e' fits'' e''))))
-    (nothing _)
+    number _ word _ (λ n fits e. number _ first _ (λ m fits' e'. number _ end _ (λ k fits'' e''.
+    called_five-says word first end n m k fits e fits' e' fits'' e'' verb other)))
 
 -- a line of the journal
 

@@ -12,7 +12,7 @@ use Rattle.cfi_text.specs.Names.{is_name, is_name_byte}
 use Rattle.cfi_plan.specs.declared.journal.Who.{Who}
 use Rattle.cfi_plan.specs.declared.journal.Who.TheVariants.{Script, Guest}
 use Rattle.cfi_plan.specs.declared.journal.JournalLine.{JournalLine}
-use Rattle.cfi_plan.specs.declared.journal.JournalLine.TheVariants.{LoadOk, LoadAgain, LoadFull, LoadPlace, LoadVerify, LoadVersions, LoadEpochs, RefreshOk, RefreshVersions, RefreshEpochs}
+use Rattle.cfi_plan.specs.declared.journal.JournalLine.TheVariants.{LoadOk, LoadAgain, LoadFull, LoadPlace, LoadVerify, LoadVersions, LoadEpochs, LoadRetired, RefreshOk, RefreshVersions, RefreshEpochs, RetireOk, RetireNotLive, RetireInUse, RetireVersions, RetireEpochs}
 use Rattle.cfi_unit.specs.declared.log.Log.TheVariants.{Pick, Open, Cause}
 use Rattle.cfi_unit.specs.declared.log.Stop.TheVariants.{Exit, Halt, Align, Fuel}
 use Rattle.cfi_report.specs.declared.line.Line.{Line}
@@ -91,9 +91,15 @@ what-fixed (LoadPlace n k) = refl
 what-fixed (LoadVerify n k p) = refl
 what-fixed (LoadVersions n g q) = refl
 what-fixed (LoadEpochs n) = refl
+what-fixed (LoadRetired n) = refl
 what-fixed (RefreshOk e) = refl
 what-fixed (RefreshVersions g q) = refl
 what-fixed RefreshEpochs = refl
+what-fixed (RetireOk n e p) = refl
+what-fixed (RetireNotLive n) = refl
+what-fixed (RetireInUse n u) = refl
+what-fixed (RetireVersions n g q) = refl
+what-fixed (RetireEpochs n) = refl
 
 line-fixed : (one : Line) → list_all fixed (line_fields one) ≡ true
 line-fixed line.Title = refl

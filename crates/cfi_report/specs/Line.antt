@@ -6,7 +6,7 @@ use Rattle.cfi_text.specs.Hex.{hex8_text, hex_text}
 use Rattle.cfi_plan.specs.declared.journal.Who.{Who}
 use Rattle.cfi_plan.specs.declared.journal.Who.TheVariants.{Script, Guest}
 use Rattle.cfi_plan.specs.declared.journal.JournalLine.{JournalLine}
-use Rattle.cfi_plan.specs.declared.journal.JournalLine.TheVariants.{LoadOk, LoadAgain, LoadFull, LoadPlace, LoadVerify, LoadVersions, LoadEpochs, RefreshOk, RefreshVersions, RefreshEpochs}
+use Rattle.cfi_plan.specs.declared.journal.JournalLine.TheVariants.{LoadOk, LoadAgain, LoadFull, LoadPlace, LoadVerify, LoadVersions, LoadEpochs, LoadRetired, RefreshOk, RefreshVersions, RefreshEpochs, RetireOk, RetireNotLive, RetireInUse, RetireVersions, RetireEpochs}
 use Rattle.cfi_unit.specs.declared.log.Log.{Log}
 use Rattle.cfi_unit.specs.declared.log.Log.TheVariants.{Pick, Open, Cause}
 use Rattle.cfi_unit.specs.declared.log.Stop.{Stop}
@@ -53,10 +53,19 @@ what_fields (LoadVerify number fault place) =
 what_fields (LoadVersions number guest quiet) =
     Word (codes "load") ∷ Decimal number ∷ Word (codes "versions") ∷ Decimal guest ∷ Decimal quiet ∷ []
 what_fields (LoadEpochs number) = Word (codes "load") ∷ Decimal number ∷ Word (codes "epochs") ∷ []
+what_fields (LoadRetired number) = Word (codes "load") ∷ Decimal number ∷ Word (codes "retired") ∷ []
 what_fields (RefreshOk epoch) = Word (codes "refresh") ∷ Word (codes "ok") ∷ Decimal epoch ∷ []
 what_fields (RefreshVersions guest quiet) =
     Word (codes "refresh") ∷ Word (codes "versions") ∷ Decimal guest ∷ Decimal quiet ∷ []
 what_fields RefreshEpochs = Word (codes "refresh") ∷ Word (codes "epochs") ∷ []
+what_fields (RetireOk number epoch policy) =
+    Word (codes "retire") ∷ Decimal number ∷ Word (codes "ok") ∷ Decimal epoch ∷ Decimal policy ∷ []
+what_fields (RetireNotLive number) = Word (codes "retire") ∷ Decimal number ∷ Word (codes "notlive") ∷ []
+what_fields (RetireInUse number user) =
+    Word (codes "retire") ∷ Decimal number ∷ Word (codes "inuse") ∷ Decimal user ∷ []
+what_fields (RetireVersions number guest quiet) =
+    Word (codes "retire") ∷ Decimal number ∷ Word (codes "versions") ∷ Decimal guest ∷ Decimal quiet ∷ []
+what_fields (RetireEpochs number) = Word (codes "retire") ∷ Decimal number ∷ Word (codes "epochs") ∷ []
 
 -- those of an entry of a log
 abbrev pub log_fields : Log → List Field

@@ -35,27 +35,26 @@ fn put_what(out: &mut Vec<u8>, what: JournalLine) -> Result<(), AllocError>
             module,
             epoch,
             policy,
-        } => put_load_two(out, module, b"ok", epoch, policy),
+        } => put_three(out, b"load", module, b"ok", epoch, policy),
         JournalLine::LoadAgain { module, policy } => {
-            put_load(out, module, b"again")?;
-            put_number(out, policy)
+            put_two(out, b"load", module, b"again", policy)
         }
-        JournalLine::LoadFull { module } => put_load(out, module, b"full"),
+        JournalLine::LoadFull { module } => put_one(out, b"load", module, b"full"),
         JournalLine::LoadPlace { module, number } => {
-            put_load(out, module, b"place")?;
-            put_number(out, number)
+            put_two(out, b"load", module, b"place", number)
         }
         JournalLine::LoadVerify {
             module,
             number,
             place,
-        } => put_load_two(out, module, b"verify", number, place),
+        } => put_three(out, b"load", module, b"verify", number, place),
         JournalLine::LoadVersions {
             module,
             guest,
             quiet,
-        } => put_load_two(out, module, b"versions", guest, quiet),
-        JournalLine::LoadEpochs { module } => put_load(out, module, b"epochs"),
+        } => put_three(out, b"load", module, b"versions", guest, quiet),
+        JournalLine::LoadEpochs { module } => put_one(out, b"load", module, b"epochs"),
+        JournalLine::LoadRetired { module } => put_one(out, b"load", module, b"retired"),
         JournalLine::RefreshOk { epoch } => {
             put_refresh(out, b"ok")?;
             put_number(out, epoch)
@@ -66,32 +65,62 @@ fn put_what(out: &mut Vec<u8>, what: JournalLine) -> Result<(), AllocError>
             put_number(out, quiet)
         }
         JournalLine::RefreshEpochs => put_refresh(out, b"epochs"),
+        JournalLine::RetireOk {
+            module,
+            epoch,
+            policy,
+        } => put_three(out, b"retire", module, b"ok", epoch, policy),
+        JournalLine::RetireNotLive { module } => put_one(out, b"retire", module, b"notlive"),
+        JournalLine::RetireInUse { module, user } => {
+            put_two(out, b"retire", module, b"inuse", user)
+        }
+        JournalLine::RetireVersions {
+            module,
+            guest,
+            quiet,
+        } => put_three(out, b"retire", module, b"versions", guest, quiet),
+        JournalLine::RetireEpochs { module } => put_one(out, b"retire", module, b"epochs"),
     }
 }
 
-// A load of a module, and what came of it.
-fn put_load(out: &mut Vec<u8>, number: u32, word: &[u8]) -> Result<(), AllocError>
+// A call for the module of this number, and what came of it.
+fn put_one(out: &mut Vec<u8>, verb: &[u8], number: u32, word: &[u8]) -> Result<(), AllocError>
     ensures { OnOk result (out.new.items ≡ out.old.items
-        ++ spaced (Word (codes "load") ∷ Decimal number ∷ Word word.now ∷ [])) }
+        ++ spaced (Word verb.now ∷ Decimal number ∷ Word word.now ∷ [])) }
 {
-    put_word(out, b"load")?;
+    put_word(out, verb)?;
     put_number(out, number)?;
     put_word(out, word)
 }
 
-// The same with two numbers more.
-fn put_load_two(
+// The same with a number more.
+fn put_two(
     out: &mut Vec<u8>,
+    verb: &[u8],
+    number: u32,
+    word: &[u8],
+    last: u32,
+) -> Result<(), AllocError>
+    ensures { OnOk result (out.new.items ≡ out.old.items ++ spaced (Word verb.now
+        ∷ Decimal number ∷ Word word.now ∷ Decimal last ∷ [])) }
+{
+    put_one(out, verb, number, word)?;
+    put_number(out, last)
+}
+
+// The same with two.
+fn put_three(
+    out: &mut Vec<u8>,
+    verb: &[u8],
     number: u32,
     word: &[u8],
     first: u32,
     last: u32,
 ) -> Result<(), AllocError>
-    ensures { OnOk result (out.new.items ≡ out.old.items ++ spaced (Word (codes "load")
+    ensures { OnOk result (out.new.items ≡ out.old.items ++ spaced (Word verb.now
         ∷ Decimal number ∷ Word word.now ∷ Decimal first ∷ Decimal last ∷ [])) }
 {
-    put_load(out, number, word)?;
-    put_number(out, first)?;
+    put_two(out, verb, number, word, first)?;
     put_number(out, last)
 }
 

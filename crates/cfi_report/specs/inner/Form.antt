@@ -11,7 +11,7 @@ use Rattle.cfi_text.specs.Names.{name_in}
 use Rattle.cfi_plan.specs.declared.journal.Who.{Who}
 use Rattle.cfi_plan.specs.declared.journal.Who.TheVariants.{Script, Guest}
 use Rattle.cfi_plan.specs.declared.journal.JournalLine.{JournalLine}
-use Rattle.cfi_plan.specs.declared.journal.JournalLine.TheVariants.{LoadOk, LoadAgain, LoadFull, LoadPlace, LoadVerify, LoadVersions, LoadEpochs, RefreshOk, RefreshVersions, RefreshEpochs}
+use Rattle.cfi_plan.specs.declared.journal.JournalLine.TheVariants.{LoadOk, LoadAgain, LoadFull, LoadPlace, LoadVerify, LoadVersions, LoadEpochs, LoadRetired, RefreshOk, RefreshVersions, RefreshEpochs, RetireOk, RetireNotLive, RetireInUse, RetireVersions, RetireEpochs}
 use Rattle.cfi_unit.specs.declared.log.Log.TheVariants.{Pick, Open, Cause}
 use Rattle.cfi_unit.specs.declared.log.Stop.TheVariants.{Exit, Halt, Align, Fuel}
 use Rattle.cfi_report.specs.declared.line.Line.{Line}
@@ -66,14 +66,26 @@ what_two verb end =
 unfoldable pub loaded_three : (end : List ℕ) → (number : ℕ) → Option JournalLine
 loaded_three end number =
     if bytes_eq end (codes "full") then Some (LoadFull number)
-    else (if bytes_eq end (codes "epochs") then Some (LoadEpochs number) else None)
+    else (if bytes_eq end (codes "epochs") then Some (LoadEpochs number)
+    else (if bytes_eq end (codes "retired") then Some (LoadRetired number) else None))
+
+-- what one of three says of a retiring
+unfoldable pub retired_three : (end : List ℕ) → (number : ℕ) → Option JournalLine
+retired_three end number =
+    if bytes_eq end (codes "notlive") then Some (RetireNotLive number)
+    else (if bytes_eq end (codes "epochs") then Some (RetireEpochs number) else None)
+
+-- what one of three says of a call for a module
+unfoldable pub called_three : (verb end : List ℕ) → (number : ℕ) → Option JournalLine
+called_three verb end number =
+    if bytes_eq verb (codes "load") then loaded_three end number
+    else (if bytes_eq verb (codes "retire") then retired_three end number else None)
 
 -- what one of three says
 unfoldable pub what_three : (verb word end : List ℕ) → Option JournalLine
 what_three verb word end =
-    if bytes_eq verb (codes "load") then option_and_then (loaded_three end) (small_number_in word)
-    else (if bytes_eq verb (codes "refresh") && bytes_eq word (codes "ok") then option_map RefreshOk (small_number_in end)
-    else None)
+    if bytes_eq verb (codes "refresh") && bytes_eq word (codes "ok") then option_map RefreshOk (small_number_in end)
+    else option_and_then (called_three verb end) (small_number_in word)
 
 -- what one of four says of a load
 unfoldable pub loaded_four : (word : List ℕ) → (number last : ℕ) → Option JournalLine
@@ -81,18 +93,24 @@ loaded_four word number last =
     if bytes_eq word (codes "again") then Some (LoadAgain number last)
     else (if bytes_eq word (codes "place") then Some (LoadPlace number last) else None)
 
+-- what one of four says of a call for a module
+unfoldable pub called_four : (verb word : List ℕ) → (number last : ℕ) → Option JournalLine
+called_four verb word number last =
+    if bytes_eq verb (codes "load") then loaded_four word number last
+    else (if bytes_eq verb (codes "retire") && bytes_eq word (codes "inuse") then Some (RetireInUse number last)
+    else None)
+
 -- what one of four says
 unfoldable pub what_four : (verb word other end : List ℕ) → Option JournalLine
 what_four verb word other end =
-    if bytes_eq verb (codes "load") then (do
-      number ← small_number_in word
-      last ← small_number_in end
-      loaded_four other number last)
-    else (if bytes_eq verb (codes "refresh") && bytes_eq word (codes "versions") then (do
+    if bytes_eq verb (codes "refresh") && bytes_eq word (codes "versions") then (do
       guest ← small_number_in other
       quiet ← small_number_in end
       Some (RefreshVersions guest quiet))
-    else None)
+    else (do
+      number ← small_number_in word
+      last ← small_number_in end
+      called_four verb other number last)
 
 -- what one of five says of a load
 unfoldable pub loaded_five : (word : List ℕ) → (number first last : ℕ) → Option JournalLine
@@ -101,15 +119,25 @@ loaded_five word number first last =
     else (if bytes_eq word (codes "verify") then Some (LoadVerify number first last)
     else (if bytes_eq word (codes "versions") then Some (LoadVersions number first last) else None))
 
+-- what one of five says of a retiring
+unfoldable pub retired_five : (word : List ℕ) → (number first last : ℕ) → Option JournalLine
+retired_five word number first last =
+    if bytes_eq word (codes "ok") then Some (RetireOk number first last)
+    else (if bytes_eq word (codes "versions") then Some (RetireVersions number first last) else None)
+
+-- what one of five says of a call for a module
+unfoldable pub called_five : (verb word : List ℕ) → (number first last : ℕ) → Option JournalLine
+called_five verb word number first last =
+    if bytes_eq verb (codes "load") then loaded_five word number first last
+    else (if bytes_eq verb (codes "retire") then retired_five word number first last else None)
+
 -- what one of five says
 unfoldable pub what_five : (verb word other first last : List ℕ) → Option JournalLine
-what_five verb word other first last =
-    if bytes_eq verb (codes "load") then (do
-      number ← small_number_in word
-      one ← small_number_in first
-      two ← small_number_in last
-      loaded_five other number one two)
-    else None
+what_five verb word other first last = do
+  number ← small_number_in word
+  one ← small_number_in first
+  two ← small_number_in last
+  called_five verb other number one two
 
 -- a line of the journal
 abbrev pub entry_form : Option Who → Option JournalLine → Option Line
