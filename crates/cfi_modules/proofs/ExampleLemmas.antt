@@ -18,6 +18,7 @@ use Rattle.cfi_verify.specs.Example.{loop_module}
 use Rattle.cfi_verify.proofs.ExampleLemmas.{verified}
 use Rattle.cfi_modules.specs.Order.{IsPlacedBehind, Joins}
 use Rattle.cfi_modules.specs.Series.{IsSeries}
+use Rattle.cfi_modules.proofs.OrderLemmas.{order_series}
 use Rattle.cfi_place.proofs.ExampleLemmas.{loop_read}
 
 abbrev object : Object
@@ -60,7 +61,7 @@ text-words : bytes_as_words object.text ≡ 0x6f ∷ []
 unfolding word_at
 text-words = refl
 
-placed : IsPlacedBehind 1024 [] unplaced loop_module
+placed : IsPlacedBehind 1024 [] [] unplaced loop_module
 unfolding relocated_from
 placed = record {
   bytes = areas_of object.text [];
@@ -80,21 +81,21 @@ placed = record {
   exports = refl;
 }
 
-joins : Joins 1024 [] unplaced loop_module
+joins : Joins 1024 [] [] unplaced loop_module
 joins = record { behind = placed; verified = verified }
 
 each : (k : ℕ) (m : Module) (p : Placed) → slice_get (unplaced ∷ []) k ≡ Some m
-    → slice_get (loop_module ∷ []) k ≡ Some p → Joins 1024 (take k (loop_module ∷ [])) m p
+    → slice_get (loop_module ∷ []) k ≡ Some p → Joins 1024 (take k (loop_module ∷ [])) (take k (loop_module ∷ [])) m p
 each zero m p m_is p_is =
     let m_same : unplaced ≡ m = cc in
     let p_same : loop_module ≡ p = cc in
-    subst (λ (n : Module). Joins 1024 [] n p) m_same (subst (λ (q : Placed). Joins 1024 [] unplaced q) p_same joins)
+    subst (λ (n : Module). Joins 1024 [] [] n p) m_same
+    (subst (λ (q : Placed). Joins 1024 [] [] unplaced q) p_same joins)
 each (suc k) m p m_is p_is = absurd (cc)
 
 pub series : IsSeries 1024 (loop_module ∷ [])
-series = record {
-  size = record { multiple = refl; least = omega arith; most = omega arith };
-  modules = unplaced ∷ [];
-  sound = All-from_recursion IsSoundModule (unplaced ∷ []) (sound, tt);
-  order = record { count = refl; joins = each };
-}
+series =
+    order_series 1024 (unplaced ∷ []) (loop_module ∷ [])
+    (record { multiple = refl; least = omega arith; most = omega arith })
+    (All-from_recursion IsSoundModule (unplaced ∷ []) (sound, tt))
+    (record { count = refl; joins = each })

@@ -1,7 +1,7 @@
 -- A series is verified one after the other at the next free places, and there are few modules and types.
 use Rattle.std.proofs.Common.{◌≡◌, ◌≢◌, ℕ, zero, suc, ◌+◌, ◌*◌, ◌≤◌, List, [], ◌∷◌, length, map, take, get_or, Some, All, refl, ap, sym, subst, ◌∙◌, add-one, arith, length-append}
 use Rattle.std.specs.List.{flat_map, slice_get, AllByRecursion}
-use Rattle.std.proofs.lemmas.List.Elements.{recursion_from_All, Contains-get_or}
+use Rattle.std.proofs.lemmas.List.Elements.{recursion_from_All}
 use Rattle.std.proofs.lemmas.Option.{slice_get-get_or}
 use Rattle.cfi_type_table.specs.Node.{Node}
 use Rattle.cfi_type_table.specs.Spelling.{AreTypes}
@@ -37,7 +37,8 @@ module _ (code_words : ℕ) (placed : List Placed) (series : IsSeries code_words
   pub ends_within : (k : ℕ) (p : Placed) → slice_get placed k ≡ Some p → p.base + length p.words ≤ code_words
   ends_within k p is =
       let m = member code_words placed series k p is in
-      let f = fits m.0 (room_after code_words (take k placed)) (names_of (take k placed)) p m.1.object_sound.relocs m.2.behind in
+      let f = fits m.0 (room_after code_words (take k placed)) (names_of m.2.0) p m.1.object_sound.relocs
+      m.2.2.behind in
       omega (arith, f.code, code_after code_words (take k placed))
 
   pub are_loaded : AreLoaded code_words placed
@@ -45,21 +46,19 @@ module _ (code_words : ℕ) (placed : List Placed) (series : IsSeries code_words
     size = series.size;
     first = λ m is.
         let j = member code_words placed series 0 m is in
-        (j.2.behind.base, j.2.behind.slot_base);
+        (j.2.2.behind.base, j.2.2.behind.slot_base);
     next = λ k m n is there.
         let j = member code_words placed series (k + 1) n there in
         let room = room_more code_words placed k m is in
         record {
-          words = j.2.behind.base ∙ ap (λ (r : Room). r.base) room;
-          slots = j.2.behind.slot_base ∙ ap (λ (r : Room). r.slot_base) room;
+          words = j.2.2.behind.base ∙ ap (λ (r : Room). r.base) room;
+          slots = j.2.2.behind.slot_base ∙ ap (λ (r : Room). r.slot_base) room;
         };
     ends = λ k d within.
         let p = get_or placed k d in ends_within k p (slice_get-get_or placed k d within);
-    verified = λ k m is. (
-      take k placed,
-      λ j d within. Contains-get_or (take k placed) j d within,
-      (member code_words placed series k m is).2.verified,
-    );
+    verified = λ k m is.
+        let j = member code_words placed series k m is in
+        (j.2.0, j.2.1, j.2.2.verified);
   }
 
   -- each module has a word at least
@@ -73,8 +72,8 @@ module _ (code_words : ℕ) (placed : List Placed) (series : IsSeries code_words
       omega (
         arith,
         rises k (omega (arith, within)),
-        j.2.behind.base,
-        some_length p.0.words j.2.verified.1.laid.some,
+        j.2.2.behind.base,
+        some_length p.0.words j.2.2.verified.1.laid.some,
         next,
         room,
       )
@@ -93,7 +92,7 @@ module _ (code_words : ℕ) (placed : List Placed) (series : IsSeries code_words
   types = λ k d within.
       let p = get_or placed k d in
       let j = member code_words placed series k p (slice_get-get_or placed k d within) in
-      subst AreTypes (sym j.2.behind.types) j.1.table
+      subst AreTypes (sym j.2.2.behind.types) j.1.table
 
   -- with what makes them apart
   pub have_graph : AreApart placed → HaveGraph placed

@@ -24,6 +24,7 @@ use Rattle.cfi_model.specs.Closed.{IsStartOf, IsStartIn, HasClasses, IsClosed}
 use Rattle.cfi_policy.specs.Image.{IsImage, HaveImage}
 use Rattle.cfi_modules.specs.Entry.{HasAddresses, IsEntryIn}
 use Rattle.cfi_modules.specs.Loaded.{AreAmong, IsLoadedImage, AreLoaded, HasStarts}
+use Rattle.cfi_modules.proofs.LiveLemmas.{all_among}
 use Rattle.cfi_modules.proofs.SeriesLemmas.{branch_words}
 use Rattle.cfi_modules.proofs.EndLemmas.{spot_of, has as spot_there, begins_within}
 use Rattle.cfi_modules.proofs.BusyLemmas.{entry_busy}
@@ -119,17 +120,19 @@ module _ (code_words : ℕ) (ms : List Placed) (loaded : AreLoaded code_words ms
       subst (λ (n : Placed). n.base + length n.words ≤ code_words) b.there.2 (loaded.ends b.there.0 m b.there.1) in
       omega (arith, b.is, begins_within m v.0 v.2.0 v.2.1 b.at begins, end)
 
-  all_among : AreAmong ms ms
-  all_among = λ k d within. Contains-get_or ms k d within
+  -- those that are live have an image
+  pub live_image : (live : List Placed) → AreAmong live ms → HaveGraph live → HaveImage live code_words
+  live_image live among graph = record {
+    graph = graph;
+    words = all_among (λ (m : Placed). m.base + length m.words ≤ code_words) ms live among loaded.ends;
+    slots = all_among (λ (m : Placed). m.slot_base + length m.branches ≤ slots_of code_words) ms live among
+        (λ k d within. slots_within (get_or ms k d) (Contains-get_or ms k d within));
+    targets = λ slot address edge.
+        word_within live among address (edge_begins code_words ms loaded live among slot address edge);
+  }
 
   pub have_image : HaveGraph ms → HaveImage ms code_words
-  have_image graph = record {
-    graph = graph;
-    words = loaded.ends;
-    slots = λ k d within. slots_within (get_or ms k d) (Contains-get_or ms k d within);
-    targets = λ slot address edge.
-        word_within ms all_among address (edge_begins code_words ms loaded ms all_among slot address edge);
-  }
+  have_image graph = live_image ms (λ k d within. Contains-get_or ms k d within) graph
 
   -- a function's address is one of the code
   pub addresses : All HasAddresses ms

@@ -9,6 +9,7 @@ pub mod NamesLemmas
 pub mod IndexLemmas
 pub mod AskedLemmas
 pub mod RoomLemmas
+pub mod LiveLemmas
 pub mod SeriesLemmas
 pub mod OrderLemmas
 pub mod EndLemmas

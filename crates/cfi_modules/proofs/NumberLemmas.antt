@@ -11,8 +11,8 @@ use Rattle.cfi_modules.specs.declared.numbers.FaultNumbers.TheVariants as told
 use Rattle.cfi_modules.specs.Numbers.{numbers_of}
 use Rattle.cfi_modules.specs.Order.{IsJoinFault}
 
-module _ (code_words : ℕ) (before : List Placed) (m : Module) where
-  pub has_numbers : (fault : JoinFault) → IsJoinFault code_words before m fault → fault ≢ Memory
+module _ (code_words : ℕ) (before live : List Placed) (m : Module) where
+  pub has_numbers : (fault : JoinFault) → IsJoinFault code_words before live m fault → fault ≢ Memory
       → (n : FaultNumbers) × (numbers_of fault ≡ Some n)
   has_numbers (Place (places.Undefined name)) is some = (told.Place 1, refl)
   has_numbers (Place places.CodeFull) is some = (told.Place 2, refl)

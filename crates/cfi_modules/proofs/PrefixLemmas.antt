@@ -8,9 +8,9 @@ use Rattle.cfi_aux.specs.declared.placed.Placed.{Placed}
 use Rattle.cfi_aux.specs.Sound.{IsSoundModule}
 use Rattle.cfi_model.specs.Data.{LiesInData}
 use Rattle.cfi_modules.specs.Fills.{fill_of, fills_of}
-use Rattle.cfi_modules.specs.Order.{names_of, Joins}
+use Rattle.cfi_modules.specs.Order.{names_of}
 use Rattle.cfi_modules.specs.Room.{room_after}
-use Rattle.cfi_modules.specs.Series.{IsSeries}
+use Rattle.cfi_modules.specs.Series.{JoinsSome, IsSeries}
 use Rattle.cfi_modules.proofs.JoinedLemmas.{there_left}
 use Rattle.cfi_modules.proofs.PlacedLemmas.{fits}
 use Rattle.cfi_modules.proofs.SeriesLemmas.{member, room_at}
@@ -36,14 +36,12 @@ module _ (code_words : ℕ) (placed : List Placed) (series : IsSeries code_words
         let is = get_in n series.modules k m (slice_get-get_or (take n series.modules) k d within) in
         subst IsSoundModule (get_or_from_slice_get series.modules k m d is)
         (series.sound k d (slice_get_within series.modules k m is));
-    order = record {
-      count = length-take n placed ∙ ap (min n) series.order.count ∙ sym (length-take n series.modules);
-      joins = λ k m p is there.
-          let within = slice_get_within (take n placed) k p there in
-          subst (λ (before : List Placed). Joins code_words before m p)
-          (sym (take_in n placed k (omega (arith, within))))
-          (series.order.joins k m p (get_in n series.modules k m is) (get_in n placed k p there));
-    };
+    count = length-take n placed ∙ ap (min n) series.count ∙ sym (length-take n series.modules);
+    joined = λ k m p is there.
+        let within = slice_get_within (take n placed) k p there in
+        subst (λ (before : List Placed). JoinsSome code_words before m p)
+        (sym (take_in n placed k (omega (arith, within))))
+        (series.joined k m p (get_in n series.modules k m is) (get_in n placed k p there));
   }
 
   data_inside : (k : ℕ) (p : Placed) → slice_get placed k ≡ Some p → LiesInData (fill_of p)
@@ -51,11 +49,11 @@ module _ (code_words : ℕ) (placed : List Placed) (series : IsSeries code_words
       let within = slice_get_within placed k p is in
       let j = member code_words placed series k p is in
       let room = room_at code_words placed series k (omega (arith, within)) in
-      let f = fits j.0 (room_after code_words (take k placed)) (names_of (take k placed)) p j.1.object_sound.relocs
-      j.2.behind in
+      let f = fits j.0 (room_after code_words (take k placed)) (names_of j.2.0) p j.1.object_sound.relocs
+      j.2.2.behind in
       record {
-        first = omega (arith, room.low, j.2.behind.data_base);
-        last = omega (arith, room.low, j.2.behind.data_base, f.ends);
+        first = omega (arith, room.low, j.2.2.behind.data_base);
+        last = omega (arith, room.low, j.2.2.behind.data_base, f.ends);
       }
 
   pub each_lies : All (λ (p : Placed). LiesInData (fill_of p)) placed

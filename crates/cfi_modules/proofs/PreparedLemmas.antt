@@ -1,5 +1,5 @@
 -- A series with one module more is another, and gives that back; and one answer has one fault.
-use Rattle.std.proofs.Common.{◌≡◌, [], ◌∷◌, List, length, get_or, Result, Err, refl, sym, ap, subst, ◌∙◌, arith, length-append}
+use Rattle.std.proofs.Common.{◌≡◌, ℕ, [], ◌∷◌, Bool, true, List, length, get_or, Result, Err, refl, sym, ap, subst, ◌∙◌, arith, length-append}
 use Rattle.std.proofs.lemmas.List.{get_or_push}
 use Rattle.cfi_aux.specs.declared.placed.Placed.{Placed}
 use Rattle.cfi_modules.specs.declared.fault.JoinFault.{JoinFault}
@@ -15,14 +15,21 @@ not_longer series placed same =
       length-append series.placed (placed ∷ []),
     )
 
+abbrev series_with : ℕ → List Placed → List Bool → Series
+series_with code_words placed flags = record { code_words = code_words; placed = placed; flags = flags }
+
+-- without the module it is what it was
+pub series_before : (old : Series) (one : Placed) → without_last (with_module old one) ≡ old
+series_before old one =
+    ap (λ (ps : List Placed). series_with old.code_words ps (without_last (with_module old one)).flags)
+    (before_last old.placed one)
+    ∙ ap (series_with old.code_words old.placed) (before_last old.flags true)
+
 -- without its last module it is what it was, and that module is the one that it took
 module _ (all rest old : Series) (last one : Placed) (rest_is : rest ≡ without_last all)
     (last_is : with_module rest last ≡ all) (is : all ≡ with_module old one) where
-  abbrev with_items : List Placed → Series
-  with_items xs = record { code_words = old.code_words; placed = xs }
-
   same_rest : rest ≡ old
-  same_rest = rest_is ∙ ap without_last is ∙ ap with_items (before_last old.placed one)
+  same_rest = rest_is ∙ ap without_last is ∙ series_before old one
 
   same_last : last ≡ one
   same_last =

@@ -22,8 +22,8 @@ use Rattle.cfi_unit.specs.Spots.{spots_of}
 use Rattle.cfi_verify.specs.Spots.{check_in, checks_of}
 use Rattle.cfi_verify.specs.Fault.{IsVerified}
 use Rattle.cfi_modules.specs.Room.{first_room, room_behind, room_after}
-use Rattle.cfi_modules.specs.Order.{names_of, Joins}
-use Rattle.cfi_modules.specs.Series.{IsSeries}
+use Rattle.cfi_modules.specs.Order.{names_of}
+use Rattle.cfi_modules.specs.Series.{JoinsSome, IsSeries}
 use Rattle.cfi_modules.proofs.PlacedLemmas.{fits}
 
 -- ---- checks have fourteen words
@@ -101,14 +101,14 @@ item_at (x ∷ xs) k within = (get_or (x ∷ xs) k x, slice_get-get_or (x ∷ xs
 
 -- a module of a series, with what it was
 pub member : (code_words : ℕ) (placed : List Placed) → IsSeries code_words placed → (k : ℕ) (p : Placed)
-    → slice_get placed k ≡ Some p → (m : Module) × IsSoundModule m × Joins code_words (take k placed) m p
+    → slice_get placed k ≡ Some p → (m : Module) × IsSoundModule m × JoinsSome code_words (take k placed) m p
 member code_words placed series k p is =
     let within : k < length series.modules =
-    omega (arith, slice_get_within placed k p is, series.order.count) in
+    omega (arith, slice_get_within placed k p is, series.count) in
     let m = item_at series.modules k within in
     let sound : IsSoundModule m.0 =
     subst IsSoundModule (get_or_from_slice_get series.modules k m.0 m.0 m.1) (series.sound k m.0 within) in
-    (m.0, sound, series.order.joins k m.0 p m.1 is)
+    (m.0, sound, series.joined k m.0 p m.1 is)
 
 -- one module more
 pub take_one_more : (placed : List Placed) (k : ℕ) (p : Placed) → slice_get placed k ≡ Some p
@@ -130,8 +130,10 @@ room_at code_words placed series (suc k) within =
     let p = item_at placed k (omega (arith, within)) in
     let m = member code_words placed series k p.0 p.1 in
     let before = room_at code_words placed series k (omega (arith, within)) in
-    let next = next_is_room m.0 (room_after code_words (take k placed)) (names_of (take k placed)) p.0 (take k placed)
-    m.1 before m.2.behind m.2.verified in
+    let live = m.2.0 in
+    let joins = m.2.2 in
+    let next = next_is_room m.0 (room_after code_words (take k placed)) (names_of live) p.0 live m.1 before joins.behind
+    joins.verified in
     subst IsRoom (sym (room_more code_words placed k p.0 p.1) ∙ ap (λ (n : ℕ). room_after code_words (take n placed)) (add-one k)) next
 
 -- the room behind a series

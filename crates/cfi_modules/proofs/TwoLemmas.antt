@@ -75,10 +75,6 @@ steps : (epoch : ℕ) → (loaded_at (epoch + 1) ≡ loaded_at epoch) ⊎ (loade
 steps zero = inr refl
 steps (suc epoch) = inl (ap loaded_at (add-one (suc epoch)))
 
-counted : (epoch : ℕ) → 1 + policy_at epoch ≡ loaded_at epoch
-counted zero = refl
-counted (suc epoch) = refl
-
 few : (epoch : ℕ) → loaded_at epoch ≤ length modules
 few zero = omega arith
 few (suc epoch) = omega arith
@@ -89,7 +85,6 @@ is_growth = record {
   first = refl;
   next = λ epoch known. steps epoch;
   few = λ epoch known. few epoch;
-  policies = λ epoch known. counted epoch;
   live = λ epoch. [];
   images = λ epoch known.
       image_is MIN_CODE_WORDS (take (loaded_at epoch) modules) (loaded_some MIN_CODE_WORDS (loaded_at epoch) modules two);

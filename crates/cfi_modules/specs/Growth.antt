@@ -1,6 +1,5 @@
--- The history that a growing series makes: each epoch has the first so many of the modules, one epoch more has one
--- module more, which is a load, or as many, which is a refresh. A policy number stands for the modules that were there:
--- 0 for those at the start, and one more for each module behind them.
+-- The history that a growing series makes: each epoch has the code of the first so many of the modules, and the labels of
+-- some of these; one epoch more has one module more, which is a load, or as many, which is a retirement or a refresh.
 use Rattle.std.specs.Prelude.{◌≡◌, ◌⊎◌, ℕ, ◌+◌, ◌≤◌, List, length, take}
 use Rattle.cfi_word.specs.declared.limits.TheConstants.{MAX_EPOCH, MAX_POLICY, MIN_VERSIONS, MAX_VERSIONS}
 use Rattle.cfi_aux.specs.declared.placed.Placed.{Placed}
@@ -13,7 +12,6 @@ pub record IsHistoryOf (code_words : ℕ) (ms : List Placed) (starts : ℕ) (h :
   pub first : loaded h.first ≡ starts
   pub next : (epoch : ℕ) → IsSeen h (epoch + 1) → (loaded (epoch + 1) ≡ loaded epoch) ⊎ (loaded (epoch + 1) ≡ loaded epoch + 1)
   pub few : (epoch : ℕ) → IsSeen h epoch → loaded epoch ≤ length ms
-  pub policies : (epoch : ℕ) → IsSeen h epoch → starts + h.policy epoch ≡ loaded epoch
   pub live : ℕ → List Placed
   pub images : (epoch : ℕ) → IsSeen h epoch → IsLoadedImage code_words (take (loaded epoch) ms) (live epoch) (h.image epoch)
 

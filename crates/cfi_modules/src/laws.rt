@@ -1,11 +1,12 @@
 //! What holds of modules in order.
 
-ghost use Rattle.std.specs.Prelude.{◌≡◌, ◌≢◌, ℕ, List, [], ◌∷◌, length, take, All};
+ghost use Rattle.std.specs.Prelude.{◌≡◌, ◌≢◌, ℕ, Bool, List, [], ◌∷◌, length, take, All};
 ghost use Rattle.cfi_model.specs.Data.{LiesInData};
 ghost use Rattle.cfi_modules.specs.Fills.{fills_of};
 ghost use Rattle.cfi_aux.specs.declared.modules.Module.{Module};
 ghost use Rattle.cfi_aux.specs.declared.placed.Placed.{Placed};
 ghost use Rattle.cfi_graph.specs.Cell.{cells_of, HasData};
+ghost use Rattle.cfi_graph.specs.Live.{live_of};
 ghost use Rattle.cfi_graph.specs.Reading.{HaveGraph};
 ghost use Rattle.cfi_graph.specs.Shaped.{AreShaped, IsShaped};
 ghost use Rattle.cfi_policy.specs.Image.{HaveImage};
@@ -23,7 +24,7 @@ ghost use Rattle.cfi_modules.specs.declared.fault.JoinFault.TheVariants.{Memory}
 ghost use Rattle.cfi_modules.specs.Order.{Joins, IsJoinFault};
 ghost use Rattle.cfi_modules.specs.Series.{CanBeTaken, IsSeries};
 
-use cfi_graph::shaped_are_apart;
+use cfi_graph::{live_are_apart, shaped_are_apart};
 
 /// Modules that were loaded one after the other are shaped.
 pub fn loaded_are_shaped()
@@ -35,6 +36,14 @@ pub fn loaded_have_image()
     ensures { (code_words : ℕ) (ms : List Placed) →
         AreLoaded code_words ms → HaveGraph ms → HaveImage ms code_words }
 {}
+
+/// And so can one be made of the live ones.
+pub fn live_have_images()
+    ensures { (code_words : ℕ) (ms : List Placed) (flags : List Bool) →
+        AreLoaded code_words ms → HaveGraph ms → HaveImage (live_of ms flags) code_words }
+{
+    live_are_apart();
+}
 
 /// Each image of them is closed, whichever class numbers it has: every unit at a start leads to starts, and so does
 /// every direct edge.
@@ -97,7 +106,7 @@ pub fn some_modules_are_loaded()
     ensures { AreLoaded MIN_CODE_WORDS (loop_module ∷ []) }
 {}
 
-/// The modules of a series are loaded one after the other, each verified against all before it.
+/// The modules of a series are loaded one after the other, each verified against some of those before it.
 pub fn series_are_loaded()
     ensures { (code_words : ℕ) (placed : List Placed) →
         IsSeries code_words placed → AreLoaded code_words placed }
@@ -115,14 +124,15 @@ pub fn series_have_graph()
 
 /// A module joins those before it as one placed module, or has one fault, if memory is there, and never both.
 pub fn one_answer()
-    ensures one { (code_words : ℕ) (before : List Placed) (m : Module) (p q : Placed) →
-        Joins code_words before m p → Joins code_words before m q → p ≡ q }
-    ensures fault { (code_words : ℕ) (before : List Placed) (m : Module) (a b : JoinFault) →
-        IsJoinFault code_words before m a → IsJoinFault code_words before m b →
+    ensures one { (code_words : ℕ) (before live : List Placed) (m : Module) (p q : Placed) →
+        Joins code_words before live m p → Joins code_words before live m q → p ≡ q }
+    ensures fault { (code_words : ℕ) (before live : List Placed) (m : Module) (a b : JoinFault) →
+        IsJoinFault code_words before live m a → IsJoinFault code_words before live m b →
         a ≢ Memory → b ≢ Memory → a ≡ b }
-    ensures never { (code_words : ℕ) (before : List Placed)
+    ensures never { (code_words : ℕ) (before live : List Placed)
         (m : Module) (p : Placed) (fault : JoinFault) →
-        Joins code_words before m p → IsJoinFault code_words before m fault → fault ≡ Memory }
+        Joins code_words before live m p → IsJoinFault code_words before live m fault →
+        fault ≡ Memory }
 {}
 
 /// Some module can be taken.

@@ -27,10 +27,11 @@ pub use entry::{entry_in, first_global};
 pub use examples::places_by_hand;
 pub use fault::JoinFault;
 pub use laws::{
-    loaded_are_shaped, loaded_have_closed_images, loaded_have_entries, loaded_have_image,
-    loaded_have_starts, loaded_make_a_history, one_answer, series_are_closed_below,
-    series_are_loaded, series_have_cells, series_have_graph, some_module_can_be_taken,
-    some_modules_are_loaded, some_modules_make_a_history, some_series_has_a_module,
+    live_have_images, loaded_are_shaped, loaded_have_closed_images, loaded_have_entries,
+    loaded_have_image, loaded_have_starts, loaded_make_a_history, one_answer,
+    series_are_closed_below, series_are_loaded, series_have_cells, series_have_graph,
+    some_module_can_be_taken, some_modules_are_loaded, some_modules_make_a_history,
+    some_series_has_a_module,
 };
 pub use numbers::{FaultNumbers, join_faults_have_numbers};
 pub use prepared::{Prepared, Refused};

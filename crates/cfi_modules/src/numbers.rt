@@ -107,8 +107,9 @@ impl JoinFault {
 
 /// Why a module does not join has numbers, if memory is there, and those of verifying tell the fault.
 pub fn join_faults_have_numbers()
-    ensures some { (code_words : ℕ) (before : List Placed) (m : Module) (fault : JoinFault) →
-        IsJoinFault code_words before m fault → fault ≢ Memory →
+    ensures some { (code_words : ℕ) (before live : List Placed) (m : Module)
+        (fault : JoinFault) →
+        IsJoinFault code_words before live m fault → fault ≢ Memory →
         (n : FaultNumbers) × (numbers_of fault ≡ Some n) }
     ensures verify { (a b : VerifyFault) (n : FaultNumbers) →
         numbers_of (Verify a) ≡ Some n → numbers_of (Verify b) ≡ Some n → a ≡ b }

@@ -3,8 +3,7 @@
 ghost use Rattle.std.specs.Prelude.{◌≡◌, IfOk, IfErr};
 ghost use Rattle.cfi_aux.specs.declared.placed.Placed.{Placed as PlacedModule};
 ghost use Rattle.cfi_modules.specs.declared.fault.JoinFault.TheVariants.{Memory};
-ghost use Rattle.cfi_modules.specs.Order.{IsJoinFault};
-ghost use Rattle.cfi_modules.specs.Series.{Series as SeriesValue, with_module, without_last, JoinsTo, HasJoined, CanBeTaken};
+ghost use Rattle.cfi_modules.specs.Series.{Series as SeriesValue, with_module, without_last, JoinsTo, IsRefusedBy, HasJoined, CanBeTaken};
 
 use crate::fault::JoinFault;
 use crate::series::Series;
@@ -19,14 +18,13 @@ pub struct Prepared {
 
 // Clauses see the series.
 impl Model for Prepared {
-    ghost use Rattle.std.specs.Prelude.{◌<◌, length};
-    ghost use Rattle.cfi_modules.specs.Series.{Series};
+    ghost use Rattle.cfi_modules.specs.Series.{Series, EndsLive};
 
     ghost Value = { Series };
 
     ghost view = { λ a. a.series };
 
-    ghost invariant = { λ a. 0 < length a.series.placed };
+    ghost invariant = { λ a. EndsLive a.series };
 }
 
 /// A series that did not take a module, as it was, and why.
@@ -46,7 +44,7 @@ impl Series {
         requires { CanBeTaken unplaced.now }
         ensures ok { IfOk result (λ prepared. HasJoined self prepared unplaced.now) }
         ensures fault { IfErr result (λ refused.
-            IsJoinFault self.code_words self.placed unplaced.now refused.fault) }
+            IsRefusedBy self unplaced.now refused.fault) }
         ensures same { IfErr result (λ refused. refused.series ≡ self) }
         ensures only { (placed : PlacedModule) → JoinsTo self unplaced.now placed →
             IfErr result (λ refused. refused.fault ≡ Memory) }

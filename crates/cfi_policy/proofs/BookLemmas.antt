@@ -13,11 +13,9 @@ use Rattle.cfi_class.specs.Kept.{AreLabelsOf, AreKept, AreExtended}
 use Rattle.cfi_graph.specs.Direct.{DirectEdge}
 use Rattle.cfi_graph.specs.KeptGraph.{IsLonger, SpanEdges}
 use Rattle.cfi_policy.specs.Book.{KeptImage, labels_of, StandsFor, PutsWords}
-use Rattle.cfi_policy.specs.Code.{LiesInModule, HasWords, IsCodeOf}
-use Rattle.cfi_policy.specs.Image.{IsImage, HaveImage}
+use Rattle.cfi_policy.specs.Code.{LiesInModule, HasWords, LieApart, IsCodeOf}
 use Rattle.cfi_policy.specs.Spans.{Spans}
 use Rattle.cfi_policy.proofs.CodeLemmas.{IsCodeSoFar, one_more_module}
-use Rattle.cfi_policy.proofs.EdgeLemmas.{apart_in}
 use Rattle.cfi_policy.proofs.SpansLemmas.{spanned_labels}
 
 -- ---- edges
@@ -46,14 +44,12 @@ last_direct ms old fresh edges is span slot address has =
 
 -- an image that has the labels of such edges has those of the direct edges
 pub labels_standing : (ms : List Placed) (edges : List Edge) (image : Image) (code_words : ℕ) → SpanEdges ms edges
-    → AreLabelsOf edges (labels_of image) → length image.tary ≡ code_words → IsCodeOf ms code_words image.code
-    → IsImage (DirectEdge ms) ms code_words image
-labels_standing ms edges image code_words span are words code = record {
-  labels = subst (λ n. AreLabels (DirectEdge ms) n image.tary image.bary) words
-      (spanned_labels (HasEdge edges) (DirectEdge ms) (spans_direct ms edges span) (length image.tary) image.tary
-      image.bary are.each);
-  code = code;
-}
+    → AreLabelsOf edges (labels_of image) → length image.tary ≡ code_words
+    → AreLabels (DirectEdge ms) code_words image.tary image.bary
+labels_standing ms edges image code_words span are words =
+    subst (λ n. AreLabels (DirectEdge ms) n image.tary image.bary) words
+    (spanned_labels (HasEdge edges) (DirectEdge ms) (spans_direct ms edges span) (length image.tary) image.tary
+    image.bary are.each)
 
 -- labels of further edges keep the numbers of an image
 pub numbers_kept : (ms : List Placed) (book : KeptImage) (image : Image) (was now : Labels)
@@ -93,10 +89,10 @@ module _ (old : List Placed) (m : Placed) (code_words : ℕ) where
       }
 
   -- the code of the modules becomes that of these and one more, where the words of this one are put
-  pub code_more : (before after : List ℕ) → HaveImage all code_words → IsCodeOf old code_words before
+  pub code_more : (before after : List ℕ) → LieApart all code_words → IsCodeOf old code_words before
       → PutsWords m before after → IsCodeOf all code_words after
-  code_more before after image is puts =
+  code_more before after apart is puts =
       let long : length all ≡ length old + 1 = length-append old (m ∷ []) in
       whole_code after
-      (one_more_module all code_words (apart_in all code_words image) (length old) (omega (arith, long)) m
+      (one_more_module all code_words apart (length old) (omega (arith, long)) m
       (sym (get_or-append_seam old m [] m)) before after (first_code before is) puts.len puts.words puts.kept)

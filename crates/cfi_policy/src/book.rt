@@ -1,12 +1,13 @@
 //! Images of modules to which modules are added: classes keep their numbers.
 
-ghost use Rattle.std.specs.Prelude.{◌≡◌, ◌+◌, ◌≤◌, ◌++◌, ◌∷◌, [], length, IfOk};
-ghost use Rattle.cfi_class.specs.Labels.{AreOrderedBySlot};
+ghost use Rattle.std.specs.Prelude.{◌≡◌, ◌+◌, ◌≤◌, ◌++◌, List, ◌∷◌, [], length, IfOk};
+ghost use Rattle.cfi_aux.specs.declared.placed.Placed.{Placed as PlacedModule};
+ghost use Rattle.cfi_class.specs.Labels.{AreLabels, AreOrderedBySlot};
 ghost use Rattle.cfi_graph.specs.Direct.{DirectEdge};
 ghost use Rattle.cfi_graph.specs.KeptGraph.{IsLonger};
 ghost use Rattle.cfi_policy.specs.Book.{labels_of, StandsFor, KeepsNumbers, PutsWords};
-ghost use Rattle.cfi_policy.specs.Code.{IsCodeOf};
-ghost use Rattle.cfi_policy.specs.Image.{IsImage, HaveImage};
+ghost use Rattle.cfi_policy.specs.Code.{IsCodeOf, LieApart};
+ghost use Rattle.cfi_policy.specs.Image.{HaveImage};
 
 use crate::code::put;
 use cfi_aux::Placed;
@@ -89,9 +90,8 @@ impl Book {
             AreOrderedBySlot (DirectEdge modules.now) book.image.bary) }
         ensures words { IfOk result (λ book. length book.image.tary ≡ layout.now) }
         ensures code { IfOk result (λ book. book.image.code ≡ code.now) }
-        ensures image { IsCodeOf modules.now layout.now code.now →
-            IfOk result (λ book.
-            IsImage (DirectEdge modules.now) modules.now layout.now book.image) }
+        ensures labels { IfOk result (λ book. AreLabels (DirectEdge modules.now) layout.now
+            book.image.tary book.image.bary) }
     {
         let graph = KeptGraph::of(alloc, modules)?;
         let kept = Kept::of(alloc, graph.edges(), layout.slots(), layout)?;
@@ -109,8 +109,9 @@ impl Book {
     ///
     /// A class of which something had a number has the least of these. The new classes, in the order of their least
     /// slots, take the least number each that nothing had and none of them has taken. The code has the new module's
-    /// words at its place. Together the modules are as `image_of` takes them. Their links are not worked out anew: what
-    /// is looked at is as `extended` of `KeptGraph` says.
+    /// words at its place, so it is that of all modules whose code it was, and of the new one. Together the modules are
+    /// as `image_of` takes them. Their links are not worked out anew: what is looked at is as `extended` of `KeptGraph`
+    /// says.
     pub fn extended(&self, alloc: Global, old: &[Placed], new: &Placed) -> Result<Book, AllocError>
         requires modules { HaveImage (old.now ++ new.now ∷ []) (length self.now.image.tary) }
         requires stands { StandsFor old.now self.now }
@@ -121,9 +122,12 @@ impl Book {
             length book.image.tary ≡ length self.now.image.tary) }
         ensures code { IfOk result (λ book.
             PutsWords new.now self.now.image.code book.image.code) }
-        ensures image { IsCodeOf old.now (length self.now.image.tary) self.now.image.code →
-            IfOk result (λ book. IsImage (DirectEdge (old.now ++ new.now ∷ []))
-            (old.now ++ new.now ∷ []) (length self.now.image.tary) book.image) }
+        ensures labels { IfOk result (λ book. AreLabels (DirectEdge (old.now ++ new.now ∷ []))
+            (length self.now.image.tary) book.image.tary book.image.bary) }
+        ensures all { (all : List PlacedModule) →
+            LieApart (all ++ new.now ∷ []) (length self.now.image.tary) →
+            IsCodeOf all (length self.now.image.tary) self.now.image.code → IfOk result (λ book.
+            IsCodeOf (all ++ new.now ∷ []) (length self.now.image.tary) book.image.code) }
     {
         let graph = self.graph.extended(alloc, old, new)?;
         let fresh = behind(self.graph.edges(), graph.edges());

@@ -147,7 +147,7 @@ made = record {
 one-read : ReadFrom (bytes_as_words loop_source.object.text) 0 (jump ∷ [])
 one-read = subst (λ (ws : List ℕ). ReadFrom ws 0 (jump ∷ [])) (sym one-word) loop_read
 
-first : IsPlacedBehind MIN_CODE_WORDS [] loop_source loop_module
+first : IsPlacedBehind MIN_CODE_WORDS [] [] loop_source loop_module
 unfolding relocated_from
 first = record {
   bytes = areas_of loop_source.object.text [];
@@ -163,7 +163,7 @@ first = record {
   exports = refl;
 }
 
-second : IsPlacedBehind MIN_CODE_WORDS (loop_module ∷ []) loop_source second_module
+second : IsPlacedBehind MIN_CODE_WORDS (loop_module ∷ []) (loop_module ∷ []) loop_source second_module
 unfolding relocated_from
 second = record {
   bytes = areas_of loop_source.object.text [];
@@ -179,7 +179,7 @@ second = record {
   exports = refl;
 }
 
-whole : IsPlacedBehind MIN_CODE_WORDS [] two_linked two_module
+whole : IsPlacedBehind MIN_CODE_WORDS [] [] two_linked two_module
 unfolding relocated_from
 whole = record {
   bytes = areas_of two_linked.object.text [];
@@ -228,10 +228,10 @@ module _ (m : Placed) (loaded : List Placed) where
       } in
       (v.0, so)
 
-joins-first : Joins MIN_CODE_WORDS [] loop_source loop_module
+joins-first : Joins MIN_CODE_WORDS [] [] loop_source loop_module
 joins-first = record { behind = first; verified = verified }
 
-joins-second : Joins MIN_CODE_WORDS (loop_module ∷ []) loop_source second_module
+joins-second : Joins MIN_CODE_WORDS (loop_module ∷ []) (loop_module ∷ []) loop_source second_module
 joins-second = record {
   behind = second;
   verified = verified-so second_module (loop_module ∷ []) (loop_verified _ _ _ _ _ _ refl);
@@ -241,13 +241,13 @@ joins : JoinBehind MIN_CODE_WORDS [] sources (loop_module ∷ second_module ∷ 
 joins zero m p is there =
     let one : loop_source ≡ m = cc in
     let other : loop_module ≡ p = cc in
-    subst (λ (q : Placed). Joins MIN_CODE_WORDS [] m q) other
-    (subst (λ (n : Module). Joins MIN_CODE_WORDS [] n loop_module) one joins-first)
+    subst (λ (q : Placed). Joins MIN_CODE_WORDS [] [] m q) other
+    (subst (λ (n : Module). Joins MIN_CODE_WORDS [] [] n loop_module) one joins-first)
 joins (suc zero) m p is there =
     let one : loop_source ≡ m = cc in
     let other : second_module ≡ p = cc in
-    subst (λ (q : Placed). Joins MIN_CODE_WORDS (loop_module ∷ []) m q) other
-    (subst (λ (n : Module). Joins MIN_CODE_WORDS (loop_module ∷ []) n second_module) one joins-second)
+    subst (λ (q : Placed). Joins MIN_CODE_WORDS (loop_module ∷ []) (loop_module ∷ []) m q) other
+    (subst (λ (n : Module). Joins MIN_CODE_WORDS (loop_module ∷ []) (loop_module ∷ []) n second_module) one joins-second)
 joins (suc (suc k)) m p is there = absurd (cc)
 
 pub two_parts : AreParts MIN_CODE_WORDS [] sources two_linked (loop_module ∷ second_module ∷ []) two_module

@@ -32,7 +32,7 @@ Follow code_words done [] [] = Unit {0}
 Follow code_words done [] (p ∷ ps) = ⊥
 Follow code_words done (m ∷ ms) [] = ⊥
 Follow code_words done (m ∷ ms) (p ∷ ps) =
-    IsSoundModule m × Joins code_words done m p × Follow code_words (done ++ p ∷ []) ms ps
+    IsSoundModule m × Joins code_words done done m p × Follow code_words (done ++ p ∷ []) ms ps
 
 pub follow-from : (code_words : ℕ) (before : List Placed) (ms : List Module) (ps : List Placed)
     → length ps ≡ length ms → All IsSoundModule ms → JoinBehind code_words before ms ps → Follow code_words before ms ps
@@ -41,10 +41,10 @@ follow-from code_words before [] (p ∷ ps) count sound joins = absurd (omega (a
 follow-from code_words before (m ∷ ms) [] count sound joins = absurd (omega (arith, count))
 follow-from code_words before (m ∷ ms) (p ∷ ps) count sound joins = (
   All-head IsSoundModule m ms sound,
-  subst (λ (xs : List Placed). Joins code_words xs m p) (append-nil before) (joins 0 m p refl refl),
+  subst (λ (xs : List Placed). Joins code_words xs xs m p) (append-nil before) (joins 0 m p refl refl),
   follow-from code_words (before ++ p ∷ []) ms ps (omega (arith, count)) (All-tail IsSoundModule m ms sound)
       (λ k n q is there.
-      subst (λ (xs : List Placed). Joins code_words xs n q) (sym (append_assoc before (p ∷ []) (take k ps)))
+      subst (λ (xs : List Placed). Joins code_words xs xs n q) (sym (append_assoc before (p ∷ []) (take k ps)))
       (joins (suc k) n q is there)),
 )
 
@@ -68,13 +68,13 @@ code-units code_words done (m ∷ ms) (p ∷ ps) follow =
     follow.1.verified.1.laid.units.units (code-units code_words (done ++ p ∷ []) ms ps follow.2)
 
 -- a part's units are as many as its words
-count-of : (code_words : ℕ) (done : List Placed) (m : Module) (p : Placed) (joins : Joins code_words done m p)
+count-of : (code_words : ℕ) (done : List Placed) (m : Module) (p : Placed) (joins : Joins code_words done done m p)
     → length p.words ≡ words_in joins.verified.1.laid.units.code
 count-of code_words done m p joins = ap (λ (ws : List ℕ). length ws) joins.verified.1.laid.units.units.spelled
 
 -- the bytes of the text with one module more
 text-more : (code_words : ℕ) (done : List Placed) (joined : Joined) (m : Module) (p : Placed) (front : List CodeUnit)
-    → IsSoundModule m → (joins : Joins code_words done m p) → length joined.text ≡ 4 * words_in front
+    → IsSoundModule m → (joins : Joins code_words done done m p) → length joined.text ≡ 4 * words_in front
     → length (with_module joined m).text ≡ 4 * words_in (front ++ joins.verified.1.laid.units.code)
 text-more code_words done joined m p front sound joins text =
     let one = (with_module-lengths joined m).text in

@@ -65,7 +65,7 @@ room-more code_words done p = fold-append room_behind (first_room code_words) do
 
 -- as many bytes of text as four for each word of the placed module
 pub text-size : (code_words : ℕ) (done : List Placed) (m : Module) (p : Placed) → IsSoundModule m
-    → IsPlacedBehind code_words done m p → length m.object.text ≡ 4 * length p.words
+    → IsPlacedBehind code_words done done m p → length m.object.text ≡ 4 * length p.words
 text-size code_words done m p sound behind =
     let words = (fits m (room_after code_words done) (names_of done) p sound.object_sound.relocs behind).words in
     omega (arith, words, sound.object_sound.words)
@@ -73,7 +73,7 @@ text-size code_words done m p sound behind =
 module _ (code_words : ℕ) (whole : Placed) (symbols : List Symbol) (done before : List Placed) (joined : Joined)
     (m : Module) (ms : List Module) (p : Placed) (front code back : List CodeUnit)
     (far : IsSoFar code_words whole symbols done before joined (m ∷ ms) front (code ++ back))
-    (sound : IsSoundModule m) (behind : IsPlacedBehind code_words done m p)
+    (sound : IsSoundModule m) (behind : IsPlacedBehind code_words done done m p)
     (rows : IsVerifiedAs p done (spots_of 0 code)) (count : length p.words ≡ words_in code) where
   abbrev W : List Spot
   W = spots_of 0 (front ++ (code ++ back))

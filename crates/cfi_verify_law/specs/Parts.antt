@@ -9,7 +9,7 @@ use Rattle.cfi_modules.specs.Order.{Joins, IsPlacedBehind}
 -- each of the modules joins those before it: the placed ones that stand already, and the parts of the modules before
 abbrev pub JoinBehind : (code_words : ℕ) → (before : List Placed) → List Module → (parts : List Placed) → Type 0
 JoinBehind code_words before ms parts = (k : ℕ) (m : Module) (p : Placed) → slice_get ms k ≡ Some m
-    → slice_get parts k ≡ Some p → Joins code_words (before ++ take k parts) m p
+    → slice_get parts k ≡ Some p → Joins code_words (before ++ take k parts) (before ++ take k parts) m p
 
 -- the output is linked of the modules; these join in order behind placed ones, as parts; and there the output is
 -- placed, as the whole. That the whole has the words of its parts is asked for, since linking may resolve otherwise
@@ -21,5 +21,5 @@ pub record AreParts (code_words : ℕ) (before : List Placed) (ms : List Module)
   pub linked : Linked ms output
   pub count : length parts ≡ length ms
   pub joins : JoinBehind code_words before ms parts
-  pub behind : IsPlacedBehind code_words before output whole
+  pub behind : IsPlacedBehind code_words before before output whole
   pub words : whole.words ≡ flat_map (λ (p : Placed). p.words) parts

@@ -13,9 +13,9 @@ ghost use Rattle.cfi_modules.specs.Order.{Joins, IsJoinFault};
 /// A module joins those before it, or it has a fault other than a want of memory: with `one_answer` of `cfi_modules`,
 /// exactly one placed module or exactly one such fault, and never both.
 pub fn joins_or_has_a_fault()
-    ensures { (code_words : ℕ) (before : List Placed) (m : Module) →
-        ((p : Placed) × Joins code_words before m p)
-        ⊎ ((fault : JoinFault) × (fault ≢ Memory) × IsJoinFault code_words before m fault) }
+    ensures { (code_words : ℕ) (before live : List Placed) (m : Module) →
+        ((p : Placed) × Joins code_words before live m p)
+        ⊎ ((fault : JoinFault) × (fault ≢ Memory) × IsJoinFault code_words before live m fault) }
 {}
 
 /// With more modules nothing is taken back: a word of an image's code that is not 0 stands in each image of all

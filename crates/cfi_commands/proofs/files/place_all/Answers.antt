@@ -12,11 +12,11 @@ returns-in-Err-clause-fault c =
     let done = c.loop-unplaced.yielded in
     let rest = into_iter_items c.next.new.self in
     let is = c.loop-unplaced.invariant in
-    let all = is.2 ∙ ap (λ (ms : List Module). done ++ ms) c.in-Some.ensures.steps.0 in
+    let all = is.3 ∙ ap (λ (ms : List Module). done ++ ms) c.in-Some.ensures.steps.0 in
     let count =
     ap (λ (xs : List Placed). length xs) c.modules.ensures.value
     ∙ ap (λ (s : Series). length s.placed) c.in-Err.ensures.same in
-    let first = series_fault c.args.layout.now done c.in-Some.unplaced c.loop-unplaced.series is.1 is.0 rest
+    let first = series_fault c.args.layout.now done c.in-Some.unplaced c.loop-unplaced.series is.1 is.2 is.0 rest
     c.in-Err.fault c.in-Err.ensures.fault in
     rw (all, c.fault_at.ensures, count) first
 
@@ -26,10 +26,11 @@ loop-unplaced-preserved c =
     let done = c.loop-unplaced.yielded in
     let rest = into_iter_items c.next.new.self in
     let is = c.loop-unplaced.invariant in
-    let more = order_more c.args.layout.now done c.in-Some.unplaced c.loop-unplaced.series is.1 is.0
+    let more = order_more c.args.layout.now done c.in-Some.unplaced c.loop-unplaced.series is.1 is.2 is.0
     c.add.new.self c.in_default.ensures.ok in (
       more.0,
       more.1,
-      is.2 ∙ ap (λ (ms : List Module). done ++ ms) c.in-Some.ensures.steps.0
+      more.2,
+      is.3 ∙ ap (λ (ms : List Module). done ++ ms) c.in-Some.ensures.steps.0
           ∙ sym (append_assoc done (c.in-Some.unplaced ∷ []) rest),
     )

@@ -14,7 +14,7 @@ pub returns : goal.returns
 returns c =
     let m = c.args.unplaced.now in
     let room = c.args.room.now in
-    let all = names_of c.args.before.now in
+    let all = names_of c.args.live.now in
     let found = find_in c.in_ok-names.names in
     let same : values_in m.object room found ≡ values_in m.object room all =
     subst (λ (symbols : List Symbol). values_by room (own_in room m.object.symbols) found symbols

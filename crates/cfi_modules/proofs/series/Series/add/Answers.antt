@@ -1,5 +1,5 @@
 use Rattle.std.proofs.Common.{inl, inr, sym, ap, subst, ◌∙◌, rules}
-use Rattle.cfi_modules.specs.Series.{Series, JoinsTo, with_module}
+use Rattle.cfi_modules.specs.Series.{Series, live_in, JoinsTo, with_module}
 use Rattle.cfi_modules.proofs.OrderLemmas.{joins_once}
 use Rattle.cfi_modules.proofs.series.Series.add.Goals as goal
 
@@ -29,7 +29,7 @@ returns-clause-only c placed joins =
     inl
     (c.in_ok-rejoin.ensures.ok
     ∙ ap (λ (s : Series). with_module s m) c.place_next.ensures.same
-    ∙ ap (with_module old) (joins_once old.code_words old.placed c.args.unplaced.now m placed
+    ∙ ap (with_module old) (joins_once old.code_words old.placed (live_in old) c.args.unplaced.now m placed
     c.in_ok-placed.ensures.joins joins))
 
 -- and is refused for memory alone

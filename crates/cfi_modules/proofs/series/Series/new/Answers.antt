@@ -13,9 +13,12 @@ invariant_of-result c =
       size = search rules;
       modules = [];
       sound = All-nil IsSoundModule;
-      order = record { count = refl; joins = λ k m p m_is p_is. absurd (none-some m m_is) };
+      count = refl;
+      joined = λ k m p m_is p_is. absurd (none-some m m_is);
     } in
     record {
       series = subst (IsSeries c.code_words.result) items none;
+      many = search rules;
+      live = search rules;
       names = tt;
     }

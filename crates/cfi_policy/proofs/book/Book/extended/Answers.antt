@@ -85,10 +85,9 @@ returns-clause-code c =
     (subst (λ code. PutsWords new code c.in_ok-code.code) (c.as_slice.ensures ∙ ap (λ b. b.image.code) c.self.view_is)
     c.in_ok-code.ensures)
 
-pub returns-clause-image : goal.returns-clause-image
-returns-clause-image c =
+pub returns-clause-labels : goal.returns-clause-labels
+returns-clause-labels c =
     let ms = c.args.old.now ++ c.args.new.now ∷ [] in
-    let new = c.args.new.now in
     let book = c.args.self.now in
     let image = c.in_ok-image.image in
     let edges = c.edges-2.result.now in
@@ -100,10 +99,15 @@ returns-clause-image c =
     (c.edges.ensures.value ∙ ap (λ b. b.graph.flow.edges) c.self.view_is)
     (c.self.invariant.same ∙ ap (λ b. labels_of b.image) c.self.view_is)
     (c.in_ok-image.ensures.labels ∙ c.labels.ensures) c.behind-fresh.ensures c.in_ok-kept.ensures.labels in
+    labels_standing ms edges image code_words span numbers.labels numbers.size
+
+pub returns-clause-all : goal.returns-clause-all
+returns-clause-all c =
+    let new = c.args.new.now in
+    let book = c.args.self.now in
+    let image = c.in_ok-image.image in
     let puts : PutsWords new book.image.code image.code =
     subst (λ code. PutsWords new book.image.code code) (sym c.in_ok-image.ensures.code)
     (subst (λ code. PutsWords new code c.in_ok-code.code) (c.as_slice.ensures ∙ ap (λ b. b.image.code) c.self.view_is)
     c.in_ok-code.ensures) in
-    λ before.
-    labels_standing ms edges image code_words span numbers.labels numbers.size
-    (code_more c.args.old.now new code_words book.image.code image.code c.requires.modules before puts)
+    λ all apart before. code_more all new (length book.image.tary) book.image.code image.code apart before puts

@@ -1,10 +1,9 @@
-use Rattle.std.proofs.Common.{◌≡◌, ◌∙◌, length, ap, sym, subst, rules}
+use Rattle.std.proofs.Common.{◌≡◌, ◌∙◌, length, ap, sym, subst}
 use Rattle.cfi_class.specs.Labels.{HasEdge, CanBeLabelled, AreOrderedBySlot}
 use Rattle.cfi_class.specs.Kept.{AreLabelsOf}
 use Rattle.cfi_graph.specs.Direct.{DirectEdge}
 use Rattle.cfi_graph.specs.KeptGraph.{SpanEdges}
 use Rattle.cfi_policy.specs.Book.{labels_of}
-use Rattle.cfi_policy.specs.Code.{IsCodeOf}
 use Rattle.cfi_policy.proofs.BookLemmas.{spans_direct, labels_standing}
 use Rattle.cfi_policy.proofs.EdgeLemmas.{can_be_labelled}
 use Rattle.cfi_policy.proofs.SpansLemmas.{spanned_order}
@@ -37,8 +36,8 @@ returns-clause-order c =
     spanned_order (HasEdge edges) (DirectEdge ms) (spans_direct ms edges span) c.in_ok-image.image.bary
     (subst (λ list. AreOrderedBySlot (HasEdge edges) list) (sym (ap (λ l. l.bary) is)) c.in_ok-kept.ensures.order)
 
-pub returns-clause-image : goal.returns-clause-image
-returns-clause-image c =
+pub returns-clause-labels : goal.returns-clause-labels
+returns-clause-labels c =
     let ms = c.args.modules.now in
     let edges = c.edges.result.now in
     let image = c.in_ok-image.image in
@@ -46,8 +45,5 @@ returns-clause-image c =
     let is : labels_of image ≡ c.in_ok-kept.kept = c.in_ok-image.ensures.labels ∙ c.labels.ensures in
     let words : length image.tary ≡ c.args.layout.now =
     ap (λ l. length l.tary) is ∙ c.in_ok-kept.ensures.labels.words in
-    let code : image.code ≡ c.args.code.now = search rules in
-    λ before.
     labels_standing ms edges image c.args.layout.now span
     (subst (λ l. AreLabelsOf edges l) (sym is) c.in_ok-kept.ensures.all) words
-    (subst (λ list. IsCodeOf ms c.args.layout.now list) (sym code) before)
