@@ -17,7 +17,8 @@ use Rattle.cfi_unit.specs.declared.log.Stop.TheVariants as stops
 use Rattle.cfi_valid.specs.Course.{Course}
 use Rattle.cfi_valid.specs.FromLaw.{HasPolicies}
 use Rattle.cfi_valid.specs.Guests.{GuestBegins}
-use Rattle.cfi_valid.specs.Loaded.{LoadedModule, Filled, start_fills}
+use Rattle.cfi_valid.specs.Journal.{members_of}
+use Rattle.cfi_valid.specs.Loaded.{Members, Filled, start_fills}
 use Rattle.cfi_valid.specs.Log.{IsLogged}
 use Rattle.cfi_valid.specs.Parts.{ComesTo}
 use Rattle.cfi_valid.specs.Replay.{Replays}
@@ -35,14 +36,14 @@ module _ (c : Course) (t : Tables) (h : History) (code : List ℕ) (of : IsHisto
     (run : HasRun c t h code number guest) (stopped : guest.base.stop ≢ None) (within : IsWithin c.plan.fuel guest)
     (logged : IsLogged c number guest.base.log) (entry : List ℕ) (named : slice_get c.plan.guests number ≡ Some entry)
   where
-    abbrev loaded : List LoadedModule
-    loaded = c.end.loaded
+    abbrev members : Members
+    members = members_of c.end
 
     abbrev address : ℕ
     address = run.opened.address
 
     abbrev fills : List Fill
-    fills = start_fills Filled loaded
+    fills = start_fills Filled members
 
     abbrev start : Raw
     start = raw_opened number address fills
@@ -50,25 +51,25 @@ module _ (c : Course) (t : Tables) (h : History) (code : List ℕ) (of : IsHisto
     abbrev part : GuestPart
     part = part_of number entry guest
 
-    policies : HasPolicies (length code) loaded h
-    policies = subst (λ (n : ℕ). HasPolicies n loaded h) (sym of.is_code.len) of.policies
+    policies : HasPolicies (length code) members h
+    policies = subst (λ (n : ℕ). HasPolicies n members h) (sym of.is_code.len) of.policies
 
     starts : IsStart h address
     starts = subst (λ (r : Raw). IsStart h r.base.pc) run.opened.is run.starts
 
     -- the policy machine has come as far as the guest
-    come : HasCome h code loaded of.known policies start.base 0 start.base start (takes_in run.came)
+    come : HasCome h code members of.known policies start.base 0 start.base start (takes_in run.came)
     come =
         let ready = opened_ready h number address fills starts in
-        comes h code loaded of.known policies start.base (takes_in run.came) 0 start.base start (inl ready) ready.0
+        comes h code members of.known policies start.base (takes_in run.came) 0 start.base start (inl ready) ready.0
         (subst (λ (r : Raw). Along h code r (takes_in run.came)) run.opened.is run.along)
-        (subst (λ (r : Raw). AreBrought loaded r (takes_in run.came)) run.opened.is run.brings) refl
+        (subst (λ (r : Raw). AreBrought members r (takes_in run.came)) run.opened.is run.brings) refl
 
     abbrev s : State
     s = come.new
 
     unspent : s.stop ≢ Some stops.Fuel
-    unspent = replay_unspent Filled code loaded s.log s.units (opened number address fills) s come.replayed refl
+    unspent = replay_unspent Filled code members s.log s.units (opened number address fills) s come.replayed refl
 
     one_epoch : c.end.epoch ≡ c.plan.first → h.count + h.ahead ≡ 1
     one_epoch same = omega (arith, same, of.first, of.force, of.ahead)
@@ -88,9 +89,9 @@ module _ (c : Course) (t : Tables) (h : History) (code : List ℕ) (of : IsHisto
         come.shown.shows ends
 
     -- where the part's guest begins
-    begins : GuestBegins c.plan loaded entry address
+    begins : GuestBegins c.plan c.end.loaded entry address
     begins =
-        subst (λ (e : List ℕ). GuestBegins c.plan loaded e address)
+        subst (λ (e : List ℕ). GuestBegins c.plan c.end.loaded e address)
         (some_same run.opened.entry entry (sym run.opened.entry_is ∙ named)) run.opened.begins
 
     abbrev come_to : ComesTo Filled c part s
@@ -100,9 +101,9 @@ module _ (c : Course) (t : Tables) (h : History) (code : List ℕ) (of : IsHisto
       code = code;
       is_code = of.is_code;
       replay = subst
-          (λ (log : List Log). Replays Filled code loaded log guest.base.units (opened number address fills) s)
+          (λ (log : List Log). Replays Filled code members log guest.base.units (opened number address fills) s)
           (sym shown.log)
-          (subst (λ (n : ℕ). Replays Filled code loaded s.log n (opened number address fills) s) (sym shown.units)
+          (subst (λ (n : ℕ). Replays Filled code members s.log n (opened number address fills) s) (sym shown.units)
           come.replayed);
     }
 

@@ -12,7 +12,7 @@ use Rattle.cfi_model.proofs.EndLemmas.{effect_units}
 use Rattle.cfi_model.proofs.ShownLemmas.{reached, shown_log, shows_running}
 use Rattle.cfi_unit.specs.declared.log.Log.{Log}
 use Rattle.cfi_valid.specs.FromLaw.{BringsDue, HasPolicies}
-use Rattle.cfi_valid.specs.Loaded.{LoadedModule, Filled, fills_between}
+use Rattle.cfi_valid.specs.Loaded.{Members, Filled, fills_between}
 use Rattle.cfi_valid.specs.Replay.{given_by}
 use Rattle.cfi_valid.specs.Running.{HasReplayed}
 use Rattle.cfi_valid.proofs.LawLemmas.{step_unit}
@@ -20,11 +20,11 @@ use Rattle.cfi_valid.proofs.RunningLemmas.{replay_goes_on}
 use Rattle.cfi_guest_part.specs.Ran.{AreBrought}
 
 -- an answer looks at the log alone
-brings_same : (loaded : List LoadedModule) (reply : Option Reply) (a b : State) → a.log ≡ b.log
-    → BringsDue Filled loaded a reply → BringsDue Filled loaded b reply
-brings_same loaded None a b same due = tt
-brings_same loaded (Some reply) a b same due = λ free.
-    due free ∙ ap (λ (log : List Log). fills_between Filled (given_by log) reply.policy loaded) same
+brings_same : (members : Members) (reply : Option Reply) (a b : State) → a.log ≡ b.log
+    → BringsDue Filled members a reply → BringsDue Filled members b reply
+brings_same members None a b same due = tt
+brings_same members (Some reply) a b same due = λ free.
+    due free ∙ ap (λ (log : List Log). fills_between Filled (given_by log) reply.policy members) same
 
 -- what the policy machine runs, one list of ends after the other
 runs_join : (h : History) (code : List ℕ) (xs ys : List End) (old mid new : State) → Runs h code (xs ++ []) old mid
@@ -33,23 +33,23 @@ runs_join h code [] ys old mid new same then = subst (λ (s : State). Runs h cod
 runs_join h code (x ∷ xs) ys old mid new runs then =
     (runs.0, runs.1, runs_join h code xs ys runs.0 mid new runs.2 then)
 
-module _ (h : History) (code : List ℕ) (loaded : List LoadedModule) (known : IsHistory h code)
-    (policies : HasPolicies (length code) loaded h) (start : State) where
+module _ (h : History) (code : List ℕ) (members : Members) (known : IsHistory h code)
+    (policies : HasPolicies (length code) members h) (start : State) where
   abbrev Replayed : State → Type 0
-  Replayed s = HasReplayed Filled code loaded s.units start s
+  Replayed s = HasReplayed Filled code members s.units start s
 
   -- what an access makes of the replay
   unit_more : (ended : Bool) (end : End) (old new : State) → Runs h code (cond ended (end ∷ []) [] ++ []) old new
-      → IsReady h old → BringsDue Filled loaded old end.reply → Replayed old → Replayed new
+      → IsReady h old → BringsDue Filled members old end.reply → Replayed old → Replayed new
   unit_more true end old new runs ready due before =
       let mid : State = runs.0 in
       let step = runs.1 in
-      let unit = step_unit Filled h code loaded end old mid known policies ready step due in
-      let more : HasReplayed Filled code loaded (old.units + 1) start mid =
-      replay_goes_on Filled code loaded old.units start old mid before unit in
+      let unit = step_unit Filled h code members end old mid known policies ready step due in
+      let more : HasReplayed Filled code members (old.units + 1) start mid =
+      replay_goes_on Filled code members old.units start old mid before unit in
       let count : mid.units ≡ old.units + 1 =
       ap (λ (s : State). s.units) step.is ∙ effect_units step.unit _ _ step.reply old in
-      subst Replayed (sym runs.2) (subst (λ (n : ℕ). HasReplayed Filled code loaded n start mid) (sym count) more)
+      subst Replayed (sym runs.2) (subst (λ (n : ℕ). HasReplayed Filled code members n start mid) (sym count) more)
   unit_more false end old new runs ready due before = subst Replayed (sym runs) before
 
   -- after some accesses
@@ -74,7 +74,7 @@ module _ (h : History) (code : List ℕ) (loaded : List LoadedModule) (known : I
   }
 
   pub comes : (takes : List Take) (retries : ℕ) (old : State) (r : Raw) → Running h code old retries r → IsReady h old
-      → Along h code r takes → AreBrought loaded r takes → Replayed old → HasCome retries old r takes
+      → Along h code r takes → AreBrought members r takes → Replayed old → HasCome retries old r takes
   comes [] retries old r running ready along brings before =
       let at = reached h code known [] old retries r running tt in
       record {
@@ -86,7 +86,7 @@ module _ (h : History) (code : List ℕ) (loaded : List LoadedModule) (known : I
   comes (t ∷ takes) retries old r running ready along brings before =
       let one = reached h code known (t ∷ []) old retries r running (along.0, tt) in
       let shows = shows_running h code old retries r running in
-      let due = brings_same loaded (reply_in t) r.base old (shown_log h code retries old r shows) brings.0 in
+      let due = brings_same members (reply_in t) r.base old (shown_log h code retries old r shows) brings.0 in
       let mid = unit_more (nat_lt r.base.units (take_one r t).base.units) (end_of r t) old one.new one.shown.runs ready
       due before in
       let rest = comes takes one.settled one.new (take_one r t) one.running one.shown.ready along.1 brings.1 mid in

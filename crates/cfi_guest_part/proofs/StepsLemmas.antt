@@ -17,20 +17,20 @@ use Rattle.cfi_model.specs.State.{State}
 use Rattle.cfi_model.proofs.AfterLemmas.{effect_unspent}
 use Rattle.cfi_model.proofs.ShownLemmas.{never_retried, shown_stop}
 use Rattle.cfi_model.proofs.StartLemmas.{started}
-use Rattle.cfi_valid.specs.Loaded.{LoadedModule, Cells}
+use Rattle.cfi_valid.specs.Loaded.{Members, Cells}
 use Rattle.cfi_valid.specs.Replay.{Replays, shown_stop as stop_shown}
 use Rattle.cfi_valid.specs.Steps.{begun_most, HasBegun, is_check, MeetsCheck}
 
 -- ---- stops
 
 -- the fuel stops no replay
-pub replay_unspent : (cells : Cells) (code : List ℕ) (loaded : List LoadedModule) (log : List Log) (count : ℕ)
-    (old new : State) → Replays cells code loaded log count old new → old.stop ≡ None
+pub replay_unspent : (cells : Cells) (code : List ℕ) (members : Members) (log : List Log) (count : ℕ)
+    (old new : State) → Replays cells code members log count old new → old.stop ≡ None
     → new.stop ≢ Some stops.Fuel
-replay_unspent cells code loaded log zero old new same going spent =
+replay_unspent cells code members log zero old new same going spent =
     let none : new.stop ≡ None = ap (λ (x : State). x.stop) same ∙ going in
     absurd (cc)
-replay_unspent cells code loaded log (suc count) old new more going spent =
+replay_unspent cells code members log (suc count) old new more going spent =
     let p = more.2 in
     effect_unspent p.unit p.pick (λ slot target. p.allowed) p.reply more.0 p.going
     (sym (ap (λ (x : State). x.stop) p.is) ∙ spent)

@@ -18,10 +18,11 @@ use Rattle.cfi_valid.specs.declared.causes.TheConstants.{VERSIONS_SPENT}
 use Rattle.cfi_valid.specs.Course.{Course}
 use Rattle.cfi_valid.specs.Growth.{IsLater, Continues, FitsEntry}
 use Rattle.cfi_valid.specs.Joining.{IsFull, HasFault, HasNoFault}
-use Rattle.cfi_valid.specs.Journal.{JournalState, IsOutOfEpochs}
-use Rattle.cfi_valid.specs.Loaded.{LoadedModule, loaded_by}
-use Rattle.cfi_valid.specs.Log.{next_policy, IsInSpan, HoldsInSpan, HasFunctionAt, HasNoFunction, is_versions, is_too_old, Why, NoModule, ModulesFull, NotPlaced, NotVerified, VersionsSpent, EpochsSpent, NoFunction, Unlogged, why_of, IsCaused, NeverFall, FitsCauses, IsLogged}
-use Rattle.cfi_valid.proofs.GrowthLemmas.{along_later, loaded_stays, spent_stays}
+use Rattle.cfi_valid.specs.Journal.{JournalState, IsOutOfEpochs, members_of, live_in}
+use Rattle.cfi_valid.specs.Loaded.{LoadedModule, live_at}
+use Rattle.cfi_valid.specs.Log.{next_policy, IsInSpan, HoldsInSpan, HasFunctionAt, HasNoFunction, is_versions, is_too_old, Why, NoModule, ModulesFull, NotPlaced, NotVerified, VersionsSpent, EpochsSpent, NoFunction, Retired, Unlogged, why_of, IsCaused, NeverFall, FitsCauses, IsLogged}
+use Rattle.cfi_valid.proofs.GrowthLemmas.{along_later, both_stay, spent_stays}
+use Rattle.cfi_valid.specs.Retiring.{HasGone}
 use Rattle.cfi_valid.proofs.LogGrowth.{old as earlier, new as current, Before as before_of, span_low, opens_stays}
 
 -- ---- policies
@@ -61,13 +62,13 @@ module _ (old new : Course) (later : IsLater old.end new.end) (Before : (at numb
             (omega (arith, span.most, next));
       }
 
-  pub holds_closes : (at : ℕ) → at < length log → (P : List LoadedModule → Type 0) → HoldsInSpan old log at P
-      → HoldsInSpan new longer at P
+  pub holds_closes : (at : ℕ) → at < length log → (P : (loaded live : List LoadedModule) → Type 0)
+      → HoldsInSpan old log at P → HoldsInSpan new longer at P
   holds_closes at within P holds =
       let low = span_low old new later Before log fits at holds.0 holds.1 in (
         holds.0,
         span_closes at holds.0 within holds.1,
-        subst P (sym (loaded_stays old.end new.end later holds.0 low)) holds.2,
+        both_stay old.end new.end later holds.0 low P holds.2,
       )
 
   at_end : (at : ℕ) (e : Log) → slice_get longer at ≡ Some e → length log ≤ at → at ≡ length log
@@ -77,11 +78,11 @@ module _ (old new : Course) (later : IsLater old.end new.end) (Before : (at numb
   module _ (After : (at number cause : ℕ) → Type 0) (rises : last_policy log ≤ policy_after (last_policy log) entry)
       (most : policy_after (last_policy log) entry ≤ new.end.policy)
       (opened : (number address policy : ℕ) → entry ≡ Open number address policy
-      → HasFunctionAt (loaded_by policy new.end.loaded) number address)
+      → HasFunctionAt (live_at policy (members_of new.end)) number address)
       (before : (at number cause : ℕ) → at < length log → Before at number cause → After at number cause)
       (caused : (number cause : ℕ) → entry ≡ Cause number cause → After (length log) number cause) where
     opens_all : (at number address policy : ℕ) → slice_get longer at ≡ Some (Open number address policy)
-        → HasFunctionAt (loaded_by policy new.end.loaded) number address
+        → HasFunctionAt (live_at policy (members_of new.end)) number address
     opens_all at number address policy is = ⊎_elim
         (λ (within : at < length log).
         opens_stays old new later Before log fits at number address policy
@@ -155,7 +156,7 @@ module _ (plan : Plan) (modules : List Module) (journal more : List Entry) (end 
   inside at policy within span =
       span_closes old new later Before log logged entry (entry_closes entry fits) at policy within span
 
-  close : (at : ℕ) → at < length log → (P : List LoadedModule → Type 0) → HoldsInSpan old log at P
+  close : (at : ℕ) → at < length log → (P : (loaded live : List LoadedModule) → Type 0) → HoldsInSpan old log at P
       → HoldsInSpan new all at P
   close at within P holds =
       holds_closes old new later Before log logged entry (entry_closes entry fits) at within P holds
@@ -192,15 +193,14 @@ module _ (plan : Plan) (modules : List Module) (journal more : List Entry) (end 
       → IsCaused new guest all at number why
   caused_closes at number within NoModule caused = caused
   caused_closes at number within ModulesFull caused =
-      close at within (λ (loaded : List LoadedModule). IsFull modules loaded number) caused
+      close at within (λ loaded live. IsFull modules loaded number) caused
   caused_closes at number within NotPlaced caused =
       close at within
-      (λ (loaded : List LoadedModule).
-      (fault : ℕ) × HasFault plan.code_words modules loaded number (Place fault)) caused
+      (λ loaded live. (fault : ℕ) × HasFault plan.code_words modules loaded live number (Place fault)) caused
   caused_closes at number within NotVerified caused =
       close at within
-      (λ (loaded : List LoadedModule).
-      (fault : ℕ) × (place : ℕ) × HasFault plan.code_words modules loaded number (Verify fault place)) caused
+      (λ loaded live.
+      (fault : ℕ) × (place : ℕ) × HasFault plan.code_words modules loaded live number (Verify fault place)) caused
   caused_closes at number within VersionsSpent caused =
       counts_by number (is_too_old number entry) refl caused
   caused_closes at number within EpochsSpent caused =
@@ -210,16 +210,19 @@ module _ (plan : Plan) (modules : List Module) (journal more : List Entry) (end 
       subst (IsInSpan after.policy all at) (ap (λ (s : JournalState). s.policy) (sym same)) span in (
         here,
         subst IsOutOfEpochs (sym same) caused.1,
-        subst (λ (s : JournalState). HasNoFault plan.code_words modules s.loaded number) (sym same) caused.2,
+        subst (λ (s : JournalState). HasNoFault plan.code_words modules s.loaded (live_in s) number) (sym same)
+            caused.2,
       )
   caused_closes at number within NoFunction caused =
-      close at within (λ (loaded : List LoadedModule). HasNoFunction loaded number) caused
+      close at within (λ loaded live. HasNoFunction live number) caused
+  caused_closes at number within Retired caused =
+      close at within (λ loaded live. HasGone loaded live number) caused
   caused_closes at number within Unlogged caused = absurd caused
 
   -- ---- the entry itself
 
   entry_opens : (number address policy : ℕ) → entry ≡ Open number address policy
-      → HasFunctionAt (loaded_by policy after.loaded) number address
+      → HasFunctionAt (live_at policy (members_of after)) number address
   entry_opens number address policy same = (subst (FitsEntry old new guest log) same fits).2
 
   entry_caused : (number cause : ℕ) → entry ≡ Cause number cause

@@ -6,11 +6,11 @@ use Rattle.cfi_aux.specs.declared.modules.Module.{Module}
 use Rattle.cfi_aux.specs.declared.placed.Placed.{Placed}
 use Rattle.cfi_plan.specs.declared.journal.Entry.{Entry}
 use Rattle.cfi_plan.specs.declared.journal.JournalLine.{JournalLine}
-use Rattle.cfi_plan.specs.declared.journal.JournalLine.TheVariants.{LoadOk, LoadAgain, LoadFull, LoadPlace, LoadVerify, LoadVersions, LoadEpochs, RefreshOk, RefreshVersions, RefreshEpochs}
+use Rattle.cfi_plan.specs.declared.journal.JournalLine.TheVariants.{LoadOk, LoadAgain, LoadFull, LoadPlace, LoadVerify, LoadVersions, LoadEpochs, LoadRetired, RefreshOk, RefreshVersions, RefreshEpochs, RetireOk, RetireNotLive, RetireInUse, RetireVersions, RetireEpochs}
 use Rattle.cfi_plan.specs.declared.plan.Plan.{Plan}
 use Rattle.cfi_modules.specs.Order.{Joins}
 use Rattle.cfi_modules.proofs.OrderLemmas.{joins_once}
-use Rattle.cfi_valid.specs.Journal.{JournalState, IsClean, with_loaded, IsOpeningState, starts_from, modules_at, EntryLeads, LineLeads, EntriesLead, IsJournal}
+use Rattle.cfi_valid.specs.Journal.{JournalState, live_in, IsClean, with_loaded, IsOpeningState, starts_from, modules_at, EntryLeads, LineLeads, EntriesLead, IsJournal}
 use Rattle.cfi_valid.specs.Loaded.{LoadedModule, placed_modules}
 use Rattle.cfi_valid.proofs.OrderLemmas.{order_once}
 
@@ -40,8 +40,11 @@ module _ (plan : Plan) (modules : List Module) where
   clean_once s number a b =
       let both : Some a.absent.unplaced ≡ Some b.absent.unplaced = sym a.absent.is ∙ b.absent.is in
       let same : a.absent.unplaced ≡ b.absent.unplaced = cc in
-      joins_once plan.code_words (placed_modules s.loaded) b.absent.unplaced a.placed b.placed
-      (subst (λ (m : Module). Joins plan.code_words (placed_modules s.loaded) m a.placed) same a.joins) b.joins
+      joins_once plan.code_words (placed_modules s.loaded) (placed_modules (live_in s)) b.absent.unplaced a.placed
+      b.placed
+      (subst
+      (λ (m : Module). Joins plan.code_words (placed_modules s.loaded) (placed_modules (live_in s)) m a.placed) same
+      a.joins) b.joins
 
   leads_by_once : (old : JournalState) (line : JournalLine) (a b : JournalState) → LineLeads plan modules old line a
       → LineLeads plan modules old line b → a ≡ b
@@ -54,9 +57,15 @@ module _ (plan : Plan) (modules : List Module) where
   leads_by_once old (LoadVerify number fault place) a b p q = p.1 ∙ sym q.1
   leads_by_once old (LoadVersions number guest quiet) a b p q = p.2 ∙ sym q.2
   leads_by_once old (LoadEpochs number) a b p q = p.2 ∙ sym q.2
+  leads_by_once old (LoadRetired number) a b p q = p.1 ∙ sym q.1
   leads_by_once old (RefreshOk epoch) a b p q = p.1 ∙ sym q.1
   leads_by_once old (RefreshVersions guest quiet) a b p q = p.1 ∙ sym q.1
   leads_by_once old RefreshEpochs a b p q = p.1 ∙ sym q.1
+  leads_by_once old (RetireOk number epoch policy) a b p q = p.1 ∙ sym q.1
+  leads_by_once old (RetireNotLive number) a b p q = p.1 ∙ sym q.1
+  leads_by_once old (RetireInUse number user) a b p q = p.1 ∙ sym q.1
+  leads_by_once old (RetireVersions number guest quiet) a b p q = p.2 ∙ sym q.2
+  leads_by_once old (RetireEpochs number) a b p q = p.2 ∙ sym q.2
 
   pub leads_once : (old : JournalState) (entry : Entry) (a b : JournalState) → EntryLeads plan modules old entry a
       → EntryLeads plan modules old entry b → a ≡ b
@@ -124,8 +133,9 @@ opening_once plan modules a b p q =
     loaded_same a.loaded b.loaded numbers placed (policies_same a.loaded b.loaded count p.policies q.policies) in
     let epoch : a.epoch ≡ b.epoch = p.epoch ∙ sym q.epoch in
     let policy : a.policy ≡ b.policy = p.policy ∙ sym q.policy in
-    let a_is : a ≡ record { epoch = a.epoch; policy = a.policy; loaded = a.loaded } = refl in
-    let b_is : b ≡ record { epoch = b.epoch; policy = b.policy; loaded = b.loaded } = refl in
+    let retired : a.retired ≡ b.retired = p.stay ∙ sym q.stay in
+    let a_is : a ≡ record { epoch = a.epoch; policy = a.policy; loaded = a.loaded; retired = a.retired } = refl in
+    let b_is : b ≡ record { epoch = b.epoch; policy = b.policy; loaded = b.loaded; retired = b.retired } = refl in
     cc
 
 pub journal_once : (plan : Plan) (modules : List Module) (journal : List Entry) (a b : JournalState)

@@ -14,15 +14,15 @@ use Rattle.cfi_unit.specs.declared.unit.Unit.{Unit as CodeUnit}
 use Rattle.cfi_unit.specs.declared.unit.Unit.TheVariants as units
 use Rattle.cfi_unit.proofs.CodeLemmas.{BeginsAt-one}
 use Rattle.cfi_valid.specs.FromLaw.{HasPolicies, BringsDue, StepsAreUnits}
-use Rattle.cfi_valid.specs.Loaded.{LoadedModule, placed_modules, loaded_by, live_at, AllowedAt, Cells}
+use Rattle.cfi_valid.specs.Loaded.{Members, placed_modules, loaded_by, live_at, AllowedAt, Cells}
 use Rattle.cfi_valid.specs.Running.{FitsService, IsGiven, RunsUnit}
 use Rattle.cfi_valid.proofs.PolicyLemmas.{image_allows}
 use Rattle.cfi_word.specs.Table.{slots_of}
 use Rattle.cfi_word.specs.declared.limits.TheConstants.{MAX_OPENS}
 use Rattle.cfi_word.specs.declared.services.TheConstants.{OPEN, TOO_MANY}
 
-module _ (h : History) (code : List ℕ) (loaded : List LoadedModule) (end : End) (old new : State)
-    (known : IsHistory h code) (policies : HasPolicies (length code) loaded h) (ready : IsReady h old)
+module _ (h : History) (code : List ℕ) (members : Members) (end : End) (old new : State)
+    (known : IsHistory h code) (policies : HasPolicies (length code) members h) (ready : IsReady h old)
     (p : IsStep h code end old new) where
   -- ---- a check
 
@@ -45,13 +45,13 @@ module _ (h : History) (code : List ℕ) (loaded : List LoadedModule) (end : End
   pub check_given : (link : Bool) (rs1 : ℕ) (imm : ℤ) (slot : ℕ) → p.unit ≡ units.Check link rs1 imm slot
       → let target = displaced (register old rs1) imm in
       is_in_code target ≡ true
-      → (allows_at h p.epoch slot target ≡ true) ↔ AllowedAt loaded (h.policy p.epoch) slot target
+      → (allows_at h p.epoch slot target ≡ true) ↔ AllowedAt members (h.policy p.epoch) slot target
   check_given link rs1 imm slot same inside =
       let target = displaced (register old rs1) imm in
       let policy = h.policy p.epoch in
       let aligned : target % 4 ≡ 0 = eqb-true (target % 4) 0 (and_parts _ (target % 4 == 0) inside).1 in
-      let exact = image_allows (length code) (placed_modules (loaded_by policy loaded))
-      (placed_modules (live_at policy loaded)) (h.image p.epoch) (policies.modules p.epoch p.known)
+      let exact = image_allows (length code) (placed_modules (loaded_by policy members.loaded))
+      (placed_modules (live_at policy members)) (h.image p.epoch) (policies.modules p.epoch p.known)
       (policies.images p.epoch p.known) slot target (slot_within link rs1 imm slot same) aligned in
       let bary = slot_class h p.epoch slot in
       let tary = target_class h p.epoch target in (
@@ -59,21 +59,21 @@ module _ (h : History) (code : List ℕ) (loaded : List LoadedModule) (end : End
         λ allowed. eq-eqb bary tary (exact.1 allowed),
       )
 
-  module _ (cells : Cells) (due : BringsDue cells loaded old end.reply) where
+  module _ (cells : Cells) (due : BringsDue cells members old end.reply) where
     -- ---- a service
 
     answered : p.unit ≡ units.Service → IsAnswered units.Service end p.reply old
     answered same = subst (λ (u : CodeUnit). IsAnswered u end p.reply old) same p.answered
 
     service_given : p.unit ≡ units.Service → (asking : Bool) → asks old ≡ asking
-        → FitsService cells asking loaded old p.reply
+        → FitsService cells asking members old p.reply
     service_given same true is =
         let both = and_parts (asked old == OPEN) (nat_lt (opens old.log) MAX_OPENS) is in
         let a = answered same in
         let fits = a.fits (eqb-true (asked old) OPEN both.0) in
         record {
           some = fits.exact (ltb-true (opens old.log) MAX_OPENS both.1);
-          brings = subst (BringsDue cells loaded old) a.came due;
+          brings = subst (BringsDue cells members old) a.came due;
         }
     service_given same false is = λ opening.
         let fits = (answered same).fits opening in
@@ -94,7 +94,7 @@ module _ (h : History) (code : List ℕ) (loaded : List LoadedModule) (end : End
     allowed_by unit = true
 
     given : (unit : CodeUnit) → p.unit ≡ unit
-        → IsGiven cells loaded unit old (h.policy p.epoch) (allowed_by unit) p.reply
+        → IsGiven cells members unit old (h.policy p.epoch) (allowed_by unit) p.reply
     given (units.Plain insn) same = tt
     given (units.Load kind rd rs1 imm) same = tt
     given (units.Store kind rs1 rs2 imm) same = tt
@@ -113,7 +113,7 @@ module _ (h : History) (code : List ℕ) (loaded : List LoadedModule) (end : End
     effect_same (units.Check link rs1 imm slot) = refl
     effect_same units.Service = refl
 
-    runs_unit : RunsUnit cells code loaded old new
+    runs_unit : RunsUnit cells code members old new
     runs_unit = record {
       going = p.going;
       unit = p.unit;
@@ -126,5 +126,5 @@ module _ (h : History) (code : List ℕ) (loaded : List LoadedModule) (end : End
     }
 
 pub step_unit : StepsAreUnits
-step_unit cells h code loaded end old new known policies ready p due =
-    runs_unit h code loaded end old new known policies ready p cells due
+step_unit cells h code members end old new known policies ready p due =
+    runs_unit h code members end old new known policies ready p cells due

@@ -1,4 +1,6 @@
 pub mod KeptLemmas
+pub mod LineLemmas
+pub mod LiveLemmas
 pub mod OrderLemmas
 pub mod CodeLemmas
 pub mod BareLemmas

@@ -13,10 +13,12 @@ use Rattle.cfi_model.specs.Log.{policy_after, last_policy}
 use Rattle.cfi_valid.specs.Course.{Course}
 use Rattle.cfi_valid.specs.Growth.{IsLater, Continues}
 use Rattle.cfi_valid.specs.Joining.{IsFull, HasFault, HasNoFault}
-use Rattle.cfi_valid.specs.Journal.{JournalState, IsOutOfEpochs}
-use Rattle.cfi_valid.specs.Loaded.{LoadedModule, loaded_by}
-use Rattle.cfi_valid.specs.Log.{IsInSpan, HoldsInSpan, HasFunctionAt, HasNoFunction, is_versions, Why, NoModule, ModulesFull, NotPlaced, NotVerified, VersionsSpent, EpochsSpent, NoFunction, Unlogged, why_of, IsCaused, NeverFall, FitsCauses, IsLogged}
-use Rattle.cfi_valid.proofs.GrowthLemmas.{along_later, loaded_stays, spent_stays}
+use Rattle.cfi_valid.specs.Journal.{JournalState, IsOutOfEpochs, members_of, live_in}
+use Rattle.cfi_valid.specs.Loaded.{LoadedModule, live_at}
+use Rattle.cfi_valid.specs.Log.{IsInSpan, HoldsInSpan, HasFunctionAt, HasNoFunction, is_versions, Why, NoModule, ModulesFull, NotPlaced, NotVerified, VersionsSpent, EpochsSpent, NoFunction, Retired, Unlogged, why_of, IsCaused, NeverFall, FitsCauses, IsLogged}
+use Rattle.cfi_valid.proofs.GrowthLemmas.{along_later, both_stay, spent_stays}
+use Rattle.cfi_valid.proofs.LiveLemmas.{live_stays}
+use Rattle.cfi_valid.specs.Retiring.{HasGone}
 use Rattle.cfi_valid.proofs.SpanLemmas.{fall_least, fall_behind, last_behind, next_most, next_rises}
 
 -- what is open has a policy that is not above the last one
@@ -52,19 +54,20 @@ module _ (old new : Course) (later : IsLater old.end new.end) (Before : (at numb
         );
   }
 
-  pub holds_stays : (at : ℕ) (P : List LoadedModule → Type 0) → HoldsInSpan old log at P → HoldsInSpan new log at P
+  pub holds_stays : (at : ℕ) (P : (loaded live : List LoadedModule) → Type 0) → HoldsInSpan old log at P
+      → HoldsInSpan new log at P
   holds_stays at P holds = (
     holds.0,
     span_stays at holds.0 holds.1,
-    subst P (sym (loaded_stays old.end new.end later holds.0 (span_low at holds.0 holds.1))) holds.2,
+    both_stay old.end new.end later holds.0 (span_low at holds.0 holds.1) P holds.2,
   )
 
   pub opens_stays : (at number address policy : ℕ) → slice_get log at ≡ Some (Open number address policy)
-      → HasFunctionAt (loaded_by policy new.end.loaded) number address
+      → HasFunctionAt (live_at policy (members_of new.end)) number address
   opens_stays at number address policy is =
       let low = open_low 0 log fits.rises at number address policy is in
-      subst (λ (loaded : List LoadedModule). HasFunctionAt loaded number address)
-      (sym (loaded_stays old.end new.end later policy (omega (arith, low, fits.most))))
+      subst (λ (live : List LoadedModule). HasFunctionAt live number address)
+      (sym (live_stays old.end new.end later policy (omega (arith, low, fits.most))))
       (fits.opens at number address policy is)
 
   pub fits_stays : (After : (at number cause : ℕ) → Type 0)
@@ -89,22 +92,23 @@ module _ (plan : Plan) (modules : List Module) (journal more : List Entry) (end 
     abbrev pub Before : (at number cause : ℕ) → Type 0
     Before at number cause = IsCaused old guest log at number (why_of cause)
 
-    stay : (at : ℕ) (P : List LoadedModule → Type 0) → HoldsInSpan old log at P → HoldsInSpan new log at P
+    stay : (at : ℕ) (P : (loaded live : List LoadedModule) → Type 0) → HoldsInSpan old log at P
+        → HoldsInSpan new log at P
     stay at P holds = holds_stays old new later Before log logged at P holds
 
     caused_stays : (at number : ℕ) (why : Why) → IsCaused old guest log at number why
         → IsCaused new guest log at number why
     caused_stays at number NoModule caused = caused
     caused_stays at number ModulesFull caused =
-        stay at (λ (loaded : List LoadedModule). IsFull modules loaded number) caused
+        stay at (λ loaded live. IsFull modules loaded number) caused
     caused_stays at number NotPlaced caused =
         stay at
-        (λ (loaded : List LoadedModule).
-        (fault : ℕ) × HasFault plan.code_words modules loaded number (Place fault)) caused
+        (λ loaded live.
+        (fault : ℕ) × HasFault plan.code_words modules loaded live number (Place fault)) caused
     caused_stays at number NotVerified caused =
         stay at
-        (λ (loaded : List LoadedModule).
-        (fault : ℕ) × (place : ℕ) × HasFault plan.code_words modules loaded number (Verify fault place)) caused
+        (λ loaded live.
+        (fault : ℕ) × (place : ℕ) × HasFault plan.code_words modules loaded live number (Verify fault place)) caused
     caused_stays at number VersionsSpent caused =
         let count = sum_by-append (λ (e : Entry). cond (is_versions guest number e) 1 0) journal more in
         omega (arith, caused, count)
@@ -112,10 +116,11 @@ module _ (plan : Plan) (modules : List Module) (journal more : List Entry) (end 
         let same = kept caused.1 in
         subst
         (λ (s : JournalState).
-        IsInSpan s.policy log at s.policy × IsOutOfEpochs s × HasNoFault plan.code_words modules s.loaded number)
+        IsInSpan s.policy log at s.policy × IsOutOfEpochs s
+        × HasNoFault plan.code_words modules s.loaded (live_in s) number)
         (sym same) caused
-    caused_stays at number NoFunction caused =
-        stay at (λ (loaded : List LoadedModule). HasNoFunction loaded number) caused
+    caused_stays at number NoFunction caused = stay at (λ loaded live. HasNoFunction live number) caused
+    caused_stays at number Retired caused = stay at (λ loaded live. HasGone loaded live number) caused
     caused_stays at number Unlogged caused = absurd caused
 
     stays : IsLogged new guest log

@@ -9,7 +9,7 @@ use Rattle.cfi_unit.specs.declared.unit.Unit.TheVariants as units
 use Rattle.cfi_model.specs.Effect.{is_in_code, asks}
 use Rattle.cfi_model.specs.Service.{Reply}
 use Rattle.cfi_model.specs.State.{State, register, displaced}
-use Rattle.cfi_valid.specs.Loaded.{LoadedModule, Cells}
+use Rattle.cfi_valid.specs.Loaded.{Members, Cells}
 use Rattle.cfi_valid.specs.Replay.{singles, next_in, IsReplyOf, TakesPick, TakesAnswer, TakesFrom, IsReplayed, Replays}
 
 -- a log has what another has, and more behind it
@@ -22,11 +22,11 @@ next_stays log longer more is s entry next =
     ap (λ (all : List Log). slice_get all (length (singles s.log))) is
     ∙ there_left (singles log) more (length (singles s.log)) entry next
 
-module _ (cells : Cells) (code : List ℕ) (loaded : List LoadedModule) (log longer more : List Log)
+module _ (cells : Cells) (code : List ℕ) (members : Members) (log longer more : List Log)
     (is : Longer log longer more) where
   picks_stay : (s : State) (slot target pick : ℕ) (allowed inside : Bool)
-      → TakesPick inside loaded (next_in log s) slot target pick allowed
-      → TakesPick inside loaded (next_in longer s) slot target pick allowed
+      → TakesPick inside members (next_in log s) slot target pick allowed
+      → TakesPick inside members (next_in longer s) slot target pick allowed
   picks_stay s slot target pick allowed true picks = record {
     is = next_stays log longer more is s (Pick pick 1) picks.is;
     exact = picks.exact;
@@ -34,24 +34,24 @@ module _ (cells : Cells) (code : List ℕ) (loaded : List LoadedModule) (log lon
   picks_stay s slot target pick allowed false picks = tt
 
   reply_stays : (s : State) (reply : Reply) (next : Option Log) → next_in log s ≡ next
-      → IsReplyOf cells loaded s next reply → IsReplyOf cells loaded s (next_in longer s) reply
+      → IsReplyOf cells members s next reply → IsReplyOf cells members s (next_in longer s) reply
   reply_stays s reply (Some (Open number address policy)) at told =
-      subst (λ (n : Option Log). IsReplyOf cells loaded s n reply)
+      subst (λ (n : Option Log). IsReplyOf cells members s n reply)
       (sym (next_stays log longer more is s (Open number address policy) at)) told
   reply_stays s reply (Some (Cause number cause)) at told =
-      subst (λ (n : Option Log). IsReplyOf cells loaded s n reply)
+      subst (λ (n : Option Log). IsReplyOf cells members s n reply)
       (sym (next_stays log longer more is s (Cause number cause) at)) told
   reply_stays s reply (Some (Pick policy count)) at told = absurd told
   reply_stays s reply None at told = absurd told
 
-  answers_stay : (s : State) (reply : Reply) (asking : Bool) → TakesAnswer cells asking loaded s (next_in log s) reply
-      → TakesAnswer cells asking loaded s (next_in longer s) reply
+  answers_stay : (s : State) (reply : Reply) (asking : Bool) → TakesAnswer cells asking members s (next_in log s) reply
+      → TakesAnswer cells asking members s (next_in longer s) reply
   answers_stay s reply true told = reply_stays s reply (next_in log s) refl told
   answers_stay s reply false told = told
 
   takes_stay : (unit : CodeUnit) (s : State) (pick : ℕ) (allowed : Bool) (reply : Reply)
-      → TakesFrom cells loaded (next_in log s) unit s pick allowed reply
-      → TakesFrom cells loaded (next_in longer s) unit s pick allowed reply
+      → TakesFrom cells members (next_in log s) unit s pick allowed reply
+      → TakesFrom cells members (next_in longer s) unit s pick allowed reply
   takes_stay (units.Plain insn) s pick allowed reply takes = tt
   takes_stay (units.Load kind rd rs1 imm) s pick allowed reply takes = tt
   takes_stay (units.Store kind rs1 rs2 imm) s pick allowed reply takes = tt
@@ -62,8 +62,8 @@ module _ (cells : Cells) (code : List ℕ) (loaded : List LoadedModule) (log lon
       picks_stay s slot target pick allowed (is_in_code target) takes
   takes_stay units.Service s pick allowed reply takes = answers_stay s reply (asks s) takes
 
-  unit_stays : (old new : State) → IsReplayed cells code loaded log old new
-      → IsReplayed cells code loaded longer old new
+  unit_stays : (old new : State) → IsReplayed cells code members log old new
+      → IsReplayed cells code members longer old new
   unit_stays old new p = record {
     going = p.going;
     unit = p.unit;
@@ -75,7 +75,7 @@ module _ (cells : Cells) (code : List ℕ) (loaded : List LoadedModule) (log lon
     is = p.is;
   }
 
-  pub replay_stays : (count : ℕ) (old new : State) → Replays cells code loaded log count old new
-      → Replays cells code loaded longer count old new
+  pub replay_stays : (count : ℕ) (old new : State) → Replays cells code members log count old new
+      → Replays cells code members longer count old new
   replay_stays zero old new p = p
   replay_stays (suc count) old new p = (p.0, replay_stays count old p.0 p.1, unit_stays p.0 new p.2)

@@ -13,7 +13,8 @@ use Rattle.cfi_valid.specs.Course.{Course}
 use Rattle.cfi_valid.specs.Growth.{Continues}
 use Rattle.cfi_valid.specs.Joining.{IsFull, HasFault}
 use Rattle.cfi_valid.specs.Loaded.{LoadedModule}
-use Rattle.cfi_valid.specs.Log.{next_policy, IsInSpan, HoldsInSpan, HasNoFunction, is_versions, is_too_old, Why, NoModule, ModulesFull, NotPlaced, NotVerified, VersionsSpent, EpochsSpent, NoFunction, Unlogged, why_of, IsCaused, NeverFall, FitsCauses, IsLogged}
+use Rattle.cfi_valid.specs.Log.{next_policy, IsInSpan, HoldsInSpan, HasNoFunction, is_versions, is_too_old, Why, NoModule, ModulesFull, NotPlaced, NotVerified, VersionsSpent, EpochsSpent, NoFunction, Retired, Unlogged, why_of, IsCaused, NeverFall, FitsCauses, IsLogged}
+use Rattle.cfi_valid.specs.Retiring.{HasGone}
 use Rattle.cfi_valid.proofs.EntryGrowth.{log_grows}
 use Rattle.cfi_valid.proofs.LogGrowth.{log_stays}
 
@@ -93,7 +94,8 @@ module _ (policy count other : ℕ) where
     -- ---- the log of a run
 
     module _ (c : Course) (guest : ℕ) where
-      holds_same : (at : ℕ) (P : List LoadedModule → Type 0) → HoldsInSpan c old at P → HoldsInSpan c new at P
+      holds_same : (at : ℕ) (P : (loaded live : List LoadedModule) → Type 0) → HoldsInSpan c old at P
+          → HoldsInSpan c new at P
       holds_same at P holds = (holds.0, span_same c.end.policy at holds.0 holds.1, holds.2)
 
       counts_same : (number : ℕ) → count_by (is_too_old number) old ≡ count_by (is_too_old number) new
@@ -105,20 +107,21 @@ module _ (policy count other : ℕ) where
           → IsCaused c guest new at number why
       caused_same at number NoModule caused = caused
       caused_same at number ModulesFull caused =
-          holds_same at (λ (loaded : List LoadedModule). IsFull c.modules loaded number) caused
+          holds_same at (λ loaded live. IsFull c.modules loaded number) caused
       caused_same at number NotPlaced caused =
           holds_same at
-          (λ (loaded : List LoadedModule).
-          (fault : ℕ) × HasFault c.plan.code_words c.modules loaded number (Place fault)) caused
+          (λ loaded live.
+          (fault : ℕ) × HasFault c.plan.code_words c.modules loaded live number (Place fault)) caused
       caused_same at number NotVerified caused =
           holds_same at
-          (λ (loaded : List LoadedModule).
-          (fault : ℕ) × (place : ℕ) × HasFault c.plan.code_words c.modules loaded number (Verify fault place)) caused
+          (λ loaded live.
+          (fault : ℕ) × (place : ℕ) × HasFault c.plan.code_words c.modules loaded live number (Verify fault place))
+          caused
       caused_same at number VersionsSpent caused =
           subst (λ (n : ℕ). n ≤ count_by (is_versions guest number) c.journal) (counts_same number) caused
       caused_same at number EpochsSpent caused = (span_same c.end.policy at c.end.policy caused.0, caused.1, caused.2)
-      caused_same at number NoFunction caused =
-          holds_same at (λ (loaded : List LoadedModule). HasNoFunction loaded number) caused
+      caused_same at number NoFunction caused = holds_same at (λ loaded live. HasNoFunction live number) caused
+      caused_same at number Retired caused = holds_same at (λ loaded live. HasGone loaded live number) caused
       caused_same at number Unlogged caused = absurd caused
 
       logged_same : IsLogged c guest old → IsLogged c guest new

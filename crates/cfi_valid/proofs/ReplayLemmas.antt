@@ -14,7 +14,7 @@ use Rattle.cfi_model.specs.Log.{picked}
 use Rattle.cfi_model.specs.Effect.{effect, checked, is_in_code, asks}
 use Rattle.cfi_model.specs.Service.{Reply}
 use Rattle.cfi_model.specs.State.{State, register, regs_with, displaced, after}
-use Rattle.cfi_valid.specs.Loaded.{LoadedModule, AllowedAt, Cells}
+use Rattle.cfi_valid.specs.Loaded.{Members, AllowedAt, Cells}
 use Rattle.cfi_word.specs.declared.map.TheConstants.{CODE_BYTES}
 use Rattle.cfi_word.specs.declared.sizes.TheConstants.{CHECK_WORDS, OUTSIDE_STEPS, MISALIGNED_STEPS, PASSED_STEPS, FORBIDDEN_STEPS}
 use Rattle.cfi_valid.specs.Replay.{next_in, IsReplyOf, TakesPick, TakesAnswer, TakesFrom, IsReplayed, Replays}
@@ -52,16 +52,16 @@ outside_same true false pick other allowed let_through link target s outside = r
 outside_same false true pick other allowed let_through link target s outside = refl
 outside_same false false pick other allowed let_through link target s outside = refl
 
-module _ (cells : Cells) (loaded : List LoadedModule) (next : Option Log) (s : State) where
+module _ (cells : Cells) (members : Members) (next : Option Log) (s : State) where
   picks_once : (slot : ℕ) (link : Bool) (target : ℕ) (inside : Bool) → is_in_code target ≡ inside
       → (pick other : ℕ) (allowed let_through : Bool)
-      → TakesPick inside loaded next slot target pick allowed
-      → TakesPick inside loaded next slot target other let_through
+      → TakesPick inside members next slot target pick allowed
+      → TakesPick inside members next slot target other let_through
       → checked pick allowed link target s ≡ checked other let_through link target s
   picks_once slot link target true is pick other allowed let_through p q =
       let both : Some (Pick pick 1) ≡ Some (Pick other 1) = sym p.is ∙ q.is in
       let same : pick ≡ other = cc in
-      let exact = subst (λ (policy : ℕ). (allowed ≡ true) ↔ AllowedAt loaded policy slot target) same p.exact in
+      let exact = subst (λ (policy : ℕ). (allowed ≡ true) ↔ AllowedAt members policy slot target) same p.exact in
       let tests : allowed ≡ let_through = same_test allowed let_through exact q.exact in
       ap (λ (policy : ℕ). checked policy allowed link target s) same
       ∙ ap (λ (passes : Bool). checked other passes link target s) tests
@@ -70,22 +70,22 @@ module _ (cells : Cells) (loaded : List LoadedModule) (next : Option Log) (s : S
 
   -- ---- a service
 
-  reply_once : (entry : Option Log) (a b : Reply) → IsReplyOf cells loaded s entry a → IsReplyOf cells loaded s entry b
-      → a ≡ b
+  reply_once : (entry : Option Log) (a b : Reply) → IsReplyOf cells members s entry a
+      → IsReplyOf cells members s entry b → a ≡ b
   reply_once (Some (Open number address policy)) a b p q = p ∙ sym q
   reply_once (Some (Cause number cause)) a b p q = p ∙ sym q
   reply_once (Some (Pick policy count)) a b p q = absurd p
   reply_once None a b p q = absurd p
 
-  answer_once : (asked : Bool) (a b : Reply) → TakesAnswer cells asked loaded s next a
-      → TakesAnswer cells asked loaded s next b → a ≡ b
+  answer_once : (asked : Bool) (a b : Reply) → TakesAnswer cells asked members s next a
+      → TakesAnswer cells asked members s next b → a ≡ b
   answer_once true a b p q = reply_once next a b p q
   answer_once false a b p q = p ∙ sym q
 
   -- ---- one unit
 
   effect_once : (unit : CodeUnit) (pick other : ℕ) (allowed let_through : Bool) (a b : Reply)
-      → TakesFrom cells loaded next unit s pick allowed a → TakesFrom cells loaded next unit s other let_through b
+      → TakesFrom cells members next unit s pick allowed a → TakesFrom cells members next unit s other let_through b
       → effect unit pick (λ slot target. allowed) a s ≡ effect unit other (λ slot target. let_through) b s
   effect_once (units.Plain insn) pick other allowed let_through a b p q = refl
   effect_once (units.Load kind rd rs1 imm) pick other allowed let_through a b p q = refl
@@ -101,37 +101,37 @@ module _ (cells : Cells) (loaded : List LoadedModule) (next : Option Log) (s : S
 
 -- ---- units
 
-module _ (cells : Cells) (code : List ℕ) (loaded : List LoadedModule) (log : List Log) where
-  unit_once : (s a b : State) → IsReplayed cells code loaded log s a → IsReplayed cells code loaded log s b → a ≡ b
+module _ (cells : Cells) (code : List ℕ) (members : Members) (log : List Log) where
+  unit_once : (s a b : State) → IsReplayed cells code members log s a → IsReplayed cells code members log s b → a ≡ b
   unit_once s a b p q =
       let same : p.unit ≡ q.unit =
       BeginsAt-one code (s.pc / 4) p.unit q.unit p.stands.begins q.stands.begins in
       let takes =
-      subst (λ (unit : CodeUnit). TakesFrom cells loaded (next_in log s) unit s p.pick p.allowed p.reply) same
+      subst (λ (unit : CodeUnit). TakesFrom cells members (next_in log s) unit s p.pick p.allowed p.reply) same
       p.takes in
       let is : a ≡ effect q.unit p.pick (λ slot target. p.allowed) p.reply s =
       p.is ∙ ap (λ (unit : CodeUnit). effect unit p.pick (λ slot target. p.allowed) p.reply s) same in
       is
-      ∙ effect_once cells loaded (next_in log s) s q.unit p.pick q.pick p.allowed q.allowed p.reply q.reply takes
+      ∙ effect_once cells members (next_in log s) s q.unit p.pick q.pick p.allowed q.allowed p.reply q.reply takes
       q.takes
       ∙ sym q.is
 
-  pub replay_once : (count : ℕ) (s a b : State) → Replays cells code loaded log count s a
-      → Replays cells code loaded log count s b → a ≡ b
+  pub replay_once : (count : ℕ) (s a b : State) → Replays cells code members log count s a
+      → Replays cells code members log count s b → a ≡ b
   replay_once zero s a b p q = p ∙ sym q
   replay_once (suc count) s a b p q =
       let same : p.0 ≡ q.0 = replay_once count s p.0 q.0 p.1 q.1 in
-      unit_once q.0 a b (subst (λ (mid : State). IsReplayed cells code loaded log mid a) same p.2) q.2
+      unit_once q.0 a b (subst (λ (mid : State). IsReplayed cells code members log mid a) same p.2) q.2
 
   -- a guest that has stopped runs no unit more
-  pub stopped_last : (less count : ℕ) (s a b : State) → Replays cells code loaded log less s a → a.stop ≢ None
-      → Replays cells code loaded log count s b → less < count → ⊥
+  pub stopped_last : (less count : ℕ) (s a b : State) → Replays cells code members log less s a → a.stop ≢ None
+      → Replays cells code members log count s b → less < count → ⊥
   stopped_last less zero s a b p stopped q before = absurd (omega (arith, before))
   stopped_last less (suc count) s a b p stopped q before = ⊎_elim
       (λ (earlier : less < count). stopped_last less count s a q.0 p stopped q.1 earlier)
       (λ (later : count ≤ less).
       let here : less ≡ count = omega (arith, before, later) in
       let same : a ≡ q.0 =
-      replay_once count s a q.0 (subst (λ (n : ℕ). Replays cells code loaded log n s a) here p) q.1 in
+      replay_once count s a q.0 (subst (λ (n : ℕ). Replays cells code members log n s a) here p) q.1 in
       stopped (ap (λ (r : State). r.stop) same ∙ q.2.going))
       (cases_lt less count)

@@ -107,7 +107,7 @@ module _ (plan : Plan) (modules : List Module) where
           ∙ ap (λ o. modules_at modules (starts_from 0 (take number plan.modules)) ++ cons_option o []) is_there
 
       -- a start module that joins
-      pub starts_more : (p : Placed) → Joins plan.code_words placed unplaced p → (l : LoadedModule)
+      pub starts_more : (p : Placed) → Joins plan.code_words placed placed unplaced p → (l : LoadedModule)
           → l.number ≡ number → l.policy ≡ 0 → (all : List LoadedModule) → all ≡ loaded ++ l ∷ []
           → StartsAreLoaded plan modules (number + 1) all (placed ++ p ∷ [])
       starts_more p joins l number_is policy_is all there = record {
@@ -126,7 +126,7 @@ module _ (plan : Plan) (modules : List Module) where
 
       -- one that does not
       pub unjoined : (code_words : ℕ) → code_words ≡ plan.code_words → (fault : JoinFault)
-          → IsJoinFault code_words placed unplaced fault → IsFirstUnjoined plan modules number fault
+          → IsJoinFault code_words placed placed unplaced fault → IsFirstUnjoined plan modules number fault
       unjoined code_words words_are fault why = record {
         line = one;
         line_is = slice_get-get_or plan.modules number one within ∙ ap (λ (x : PlanModule). Some x) (sym is);
@@ -135,13 +135,13 @@ module _ (plan : Plan) (modules : List Module) where
         is = is_there;
         before = placed;
         order = so_far.order;
-        why = subst (λ (n : ℕ). IsJoinFault n placed unplaced fault) words_are why;
+        why = subst (λ (n : ℕ). IsJoinFault n placed placed unplaced fault) words_are why;
       }
 
   -- all of them are the opening's
   pub starts_all : (loaded : List LoadedModule) (placed : List Placed) → placed_modules loaded ≡ placed
       → StartsAreLoaded plan modules (length plan.modules) loaded placed
-      → IsOpeningState plan modules (record { epoch = plan.first; policy = 0; loaded = loaded })
+      → IsOpeningState plan modules (record { epoch = plan.first; policy = 0; loaded = loaded; retired = [] })
   starts_all loaded placed places all =
       let every : take (length plan.modules) plan.modules ≡ plan.modules = take-length plan.modules in
       record {
@@ -149,6 +149,7 @@ module _ (plan : Plan) (modules : List Module) where
         policy = refl;
         starts = all.starts ∙ ap (starts_from 0) every;
         policies = all.policies;
+        stay = refl;
         order = subst (AreInOrder plan.code_words (modules_at modules (starts_from 0 plan.modules)))
             (sym places)
             (subst (λ (ms : List PlanModule).

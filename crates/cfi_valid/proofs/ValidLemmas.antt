@@ -15,8 +15,8 @@ use Rattle.cfi_report.specs.declared.report.Report.{Report}
 use Rattle.cfi_valid.specs.Agree.{HasSameEnd, EndsAlike, AgreeIn}
 use Rattle.cfi_valid.specs.Course.{Course}
 use Rattle.cfi_valid.specs.Guests.{GuestBegins}
-use Rattle.cfi_valid.specs.Journal.{JournalState, IsJournal}
-use Rattle.cfi_valid.specs.Loaded.{LoadedModule, placed_modules, Cells, Filled, start_fills, module_line_of}
+use Rattle.cfi_valid.specs.Journal.{JournalState, members_of, IsJournal}
+use Rattle.cfi_valid.specs.Loaded.{Members, placed_modules, Cells, Filled, start_fills, module_line_of}
 use Rattle.cfi_valid.specs.Replay.{Replays, shown_stop}
 use Rattle.cfi_valid.specs.Parts.{IsPartOf, ComesTo, HasReplay, HasEndedReplay}
 use Rattle.cfi_valid.specs.Valid.{course_of, IsValidReport}
@@ -46,37 +46,39 @@ shown_some (Some (stops.Halt address)) some other = λ none. absurd (cc)
 shown_some (Some (stops.Align address)) some other = λ none. absurd (cc)
 shown_some (Some stops.Fuel) some other = absurd (other refl)
 
-module _ (cells : Cells) (loaded : List LoadedModule) (fills : List Fill) (s : State) where
+module _ (cells : Cells) (members : Members) (fills : List Fill) (s : State) where
   replay_as : (code code' : List ℕ) (log log' : List Log) (number number' address address' units : ℕ)
       → code ≡ code' → log ≡ log' → number ≡ number' → address ≡ address'
-      → Replays cells code loaded log units (opened number address fills) s
-      → Replays cells code' loaded log' units (opened number' address' fills) s
+      → Replays cells code members log units (opened number address fills) s
+      → Replays cells code' members log' units (opened number' address' fills) s
   replay_as code code' log log' number number' address address' units c l n a replay =
-      subst (λ (x : ℕ). Replays cells code' loaded log' units (opened number' x fills) s) a
-      (subst (λ (x : ℕ). Replays cells code' loaded log' units (opened x address fills) s) n
-      (subst (λ (x : List Log). Replays cells code' loaded x units (opened number address fills) s) l
-      (subst (λ (x : List ℕ). Replays cells x loaded log units (opened number address fills) s) c replay)))
+      subst (λ (x : ℕ). Replays cells code' members log' units (opened number' x fills) s) a
+      (subst (λ (x : ℕ). Replays cells code' members log' units (opened x address fills) s) n
+      (subst (λ (x : List Log). Replays cells code' members x units (opened number address fills) s) l
+      (subst (λ (x : List ℕ). Replays cells x members log units (opened number address fills) s) c replay)))
 
 -- the replay of one part, as one of the other
 as_other : (cells : Cells) (c : Course) (a b : GuestPart) (s t : State) (p : ComesTo cells c a s)
     (q : ComesTo cells c b t) → a.number ≡ b.number → a.entry ≡ b.entry → a.log ≡ b.log
-    → Replays cells q.code c.end.loaded b.log a.units (opened b.number q.address (start_fills cells c.end.loaded)) s
+    → Replays cells q.code (members_of c.end) b.log a.units
+    (opened b.number q.address (start_fills cells (members_of c.end))) s
 as_other cells c a b s t p q number entry log =
     let loaded = c.end.loaded in
     let code = code_once (placed_modules loaded) c.plan.code_words p.code q.code p.is_code q.is_code in
     let address = begins_once c.plan loaded b.entry p.address q.address
     (subst (λ (name : List ℕ). GuestBegins c.plan loaded name p.address) entry p.begins) q.begins in
-    replay_as cells loaded (start_fills cells loaded) s p.code q.code a.log b.log a.number b.number p.address q.address
-    a.units code log number address p.replay
+    let members = members_of c.end in
+    replay_as cells members (start_fills cells members) s p.code q.code a.log b.log a.number b.number p.address
+    q.address a.units code log number address p.replay
 
 -- two parts that say one guest, one log and as many units come to one state
 pub comes_once : (cells : Cells) (c : Course) (a b : GuestPart) (s t : State) → ComesTo cells c a s
     → ComesTo cells c b t → a.number ≡ b.number → a.entry ≡ b.entry → a.log ≡ b.log → a.units ≡ b.units → s ≡ t
 comes_once cells c a b s t p q number entry log units =
-    replay_once cells q.code c.end.loaded b.log b.units (opened b.number q.address (start_fills cells c.end.loaded)) s t
-    (subst
-    (λ (n : ℕ).
-    Replays cells q.code c.end.loaded b.log n (opened b.number q.address (start_fills cells c.end.loaded)) s) units
+    let members = members_of c.end in
+    let start : State = opened b.number q.address (start_fills cells members) in
+    replay_once cells q.code members b.log b.units start s t
+    (subst (λ (n : ℕ). Replays cells q.code members b.log n start s) units
     (as_other cells c a b s t p q number entry log)) q.replay
 
 module _ (cells : Cells) (c : Course) (a b : GuestPart) (p : HasReplay cells c a) (q : HasReplay cells c b)
@@ -92,16 +94,16 @@ module _ (cells : Cells) (c : Course) (a b : GuestPart) (p : HasReplay cells c a
   units_same : shown_stop a.stop ≢ None → shown_stop b.stop ≢ None → a.units ≡ b.units
   units_same one other =
       let code = q.comes.code in
-      let start : State = opened b.number q.comes.address (start_fills cells c.end.loaded) in
+      let start : State = opened b.number q.comes.address (start_fills cells (members_of c.end)) in
       let replay = as_other cells c a b p.last q.last p.comes q.comes number entry log in
       ⊎_elim
       (λ same. same)
       (λ apart. ⊎_elim
       (λ (less : a.units < b.units).
-      absurd (stopped_last cells code c.end.loaded b.log a.units b.units start p.last q.last replay
+      absurd (stopped_last cells code (members_of c.end) b.log a.units b.units start p.last q.last replay
       (λ none. one (sym p.stop ∙ none)) q.comes.replay less))
       (λ (more : b.units < a.units).
-      absurd (stopped_last cells code c.end.loaded b.log b.units a.units start q.last p.last q.comes.replay
+      absurd (stopped_last cells code (members_of c.end) b.log b.units a.units start q.last p.last q.comes.replay
       (λ none. other (sym q.stop ∙ none)) replay more))
       apart)
       (cases_order a.units b.units)

@@ -1,4 +1,9 @@
 pub mod ExampleCode
+pub mod FitLemmas
+pub mod TestLemmas
+pub mod VerifiedByTest
+pub mod EvaluatedReplay
+pub mod EndedExample
 pub mod ExampleLemmas
 pub mod ExampleReplay
 pub mod HelloLies
@@ -10,11 +15,7 @@ pub mod LoadLemmas
 pub mod LoadLies
 pub mod TablePlaced
 pub mod TablePlaces
-pub mod LibVerified
-pub mod MainVerified
 pub mod TablePolicy
 pub mod TableJournal
-pub mod TableStates
 pub mod TableReplay
-pub mod TableEnd
 pub mod TableLemmas

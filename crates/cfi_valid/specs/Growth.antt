@@ -6,15 +6,25 @@ use Rattle.cfi_model.specs.Log.{picked, policy_after, last_policy}
 use Rattle.cfi_unit.specs.declared.log.Log.{Log}
 use Rattle.cfi_unit.specs.declared.log.Log.TheVariants.{Pick, Open, Cause}
 use Rattle.cfi_valid.specs.Course.{Course}
-use Rattle.cfi_valid.specs.Journal.{JournalState, EntriesLead}
-use Rattle.cfi_valid.specs.Loaded.{LoadedModule, loaded_by}
+use Rattle.cfi_valid.specs.Journal.{JournalState, EntriesLead, members_of}
+use Rattle.cfi_valid.specs.Loaded.{LoadedModule, loaded_by, live_at}
+use Rattle.cfi_valid.specs.declared.retirement.Retirement.{Retirement}
 use Rattle.cfi_valid.specs.Log.{HasFunctionAt, IsInSpan, IsCaused, why_of, IsLogged}
 
--- a state has the modules of an earlier one, and behind them those that came with later policies
+-- what a state has came with policies up to the one in force
+pub record AreUpTo (s : JournalState) : Type 0 where
+  pub loaded : AllByRecursion (λ (l : LoadedModule). l.policy ≤ s.policy) s.loaded
+  pub retired : AllByRecursion (λ (r : Retirement). r.policy ≤ s.policy) s.retired
+
+-- a state has the modules of an earlier one, and behind them those that came with later policies; and so it is with
+-- those that were retired
 pub record IsLater (old new : JournalState) : Type 0 where
   pub more : List LoadedModule
   pub is : new.loaded ≡ old.loaded ++ more
   pub above : AllByRecursion (λ (l : LoadedModule). old.policy < l.policy) more
+  pub gone : List Retirement
+  pub retired_is : new.retired ≡ old.retired ++ gone
+  pub after : AllByRecursion (λ (r : Retirement). old.policy < r.policy) gone
   pub policy : old.policy ≤ new.policy
   pub epoch : old.epoch ≤ new.epoch
 
@@ -30,6 +40,11 @@ pub record Continues (old new : Course) : Type 0 where
 abbrev pub LoadedStays : Type 0
 LoadedStays = (old new : JournalState) → IsLater old new → (policy : ℕ) → policy ≤ old.policy →
     loaded_by policy new.loaded ≡ loaded_by policy old.loaded
+
+-- and what was live then is live under it
+abbrev pub LiveStays : Type 0
+LiveStays = (old new : JournalState) → IsLater old new → (policy : ℕ) → policy ≤ old.policy →
+    live_at policy (members_of new) ≡ live_at policy (members_of old)
 
 -- what a guest has logged still fits
 abbrev pub LogStays : Type 0
@@ -52,7 +67,7 @@ abbrev pub FitsEntry : (old new : Course) → (guest : ℕ) → List Log → Log
 FitsEntry old new guest log (Pick policy count) = (old.end.policy ≤ policy) × (policy ≤ new.end.policy)
 FitsEntry old new guest log (Open number address policy) =
     (old.end.policy ≤ policy) × (policy ≤ new.end.policy)
-    × HasFunctionAt (loaded_by policy new.end.loaded) number address
+    × HasFunctionAt (live_at policy (members_of new.end)) number address
 FitsEntry old new guest log (Cause number cause) =
     IsCaused new guest (log ++ Cause number cause ∷ []) (length log) number (why_of cause)
 

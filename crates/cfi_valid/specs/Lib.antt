@@ -1,4 +1,5 @@
 pub mod Loaded
+pub mod Retiring
 pub mod Kept
 pub mod Bare
 pub mod Joining

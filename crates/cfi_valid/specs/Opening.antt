@@ -18,7 +18,7 @@ pub record IsFirstUnjoined (plan : Plan) (modules : List Module) (number : ℕ) 
   pub is : slice_get modules number ≡ Some unplaced
   pub before : List Placed
   pub order : AreInOrder plan.code_words (modules_at modules (starts_from 0 (take number plan.modules))) before
-  pub why : IsJoinFault plan.code_words before unplaced fault
+  pub why : IsJoinFault plan.code_words before before unplaced fault
 
 -- all start modules join, and the guest of this number is the first that has none
 pub record IsFirstLost (plan : Plan) (modules : List Module) (guest : ℕ) : Type 0 where

@@ -6,6 +6,7 @@ use Rattle.cfi_policy.specs.Code.{IsCodeOf}
 use Rattle.cfi_report.specs.declared.report.GuestPart.{GuestPart}
 use Rattle.cfi_valid.specs.Course.{Course}
 use Rattle.cfi_valid.specs.Guests.{GuestBegins, HasEntry}
+use Rattle.cfi_valid.specs.Journal.{members_of}
 use Rattle.cfi_valid.specs.Loaded.{placed_modules, start_fills, Cells, Filled}
 use Rattle.cfi_valid.specs.Replay.{Replays, shown_stop}
 use Rattle.cfi_valid.specs.Steps.{HasSteps}
@@ -27,8 +28,8 @@ pub record ComesTo (cells : Cells) (c : Course) (part : GuestPart) (last : State
   pub begins : GuestBegins c.plan c.end.loaded part.entry address
   pub code : List ℕ
   pub is_code : IsCodeOf (placed_modules c.end.loaded) c.plan.code_words code
-  pub replay : Replays cells code c.end.loaded part.log part.units
-      (opened part.number address (start_fills cells c.end.loaded)) last
+  pub replay : Replays cells code (members_of c.end) part.log part.units
+      (opened part.number address (start_fills cells (members_of c.end))) last
 
 -- that state has what the part says, whether the guest has stopped or not
 pub record HasReplay (cells : Cells) (c : Course) (part : GuestPart) : Type 0 where

@@ -11,7 +11,7 @@ use Rattle.cfi_model.specs.Effect.{effect, is_in_code, asks}
 use Rattle.cfi_model.specs.Service.{Reply, reply_of, too_many}
 use Rattle.cfi_model.specs.Shows.{Stands}
 use Rattle.cfi_model.specs.State.{State, register, displaced}
-use Rattle.cfi_valid.specs.Loaded.{LoadedModule, AllowedAt, Cells, fills_between}
+use Rattle.cfi_valid.specs.Loaded.{Members, AllowedAt, Cells, fills_between}
 
 -- ---- the log, one by one
 
@@ -42,42 +42,42 @@ abbrev pub given_by : List Log → ℕ
 given_by log = fold given_after 0 log
 
 -- the answer that an entry tells: a success brings the data that the guest lacks, and then the cells
-abbrev pub IsReplyOf : Cells → List LoadedModule → State → Option Log → Reply → Type 0
-IsReplyOf cells loaded s (Some (Open number address policy)) reply =
-    reply ≡ reply_of address 0 policy (fills_between cells (given_by s.log) policy loaded)
-IsReplyOf cells loaded s (Some (Cause number cause)) reply = reply ≡ reply_of 0 cause 0 []
-IsReplyOf cells loaded s (Some (Pick policy count)) reply = ⊥
-IsReplyOf cells loaded s None reply = ⊥
+abbrev pub IsReplyOf : Cells → Members → State → Option Log → Reply → Type 0
+IsReplyOf cells members s (Some (Open number address policy)) reply =
+    reply ≡ reply_of address 0 policy (fills_between cells (given_by s.log) policy members)
+IsReplyOf cells members s (Some (Cause number cause)) reply = reply ≡ reply_of 0 cause 0 []
+IsReplyOf cells members s (Some (Pick policy count)) reply = ⊥
+IsReplyOf cells members s None reply = ⊥
 
 -- ---- one unit
 
 -- a check picks the next policy of the log, and is let through exactly where that policy allows it
-pub record IsPicked (loaded : List LoadedModule) (next : Option Log) (slot target pick : ℕ) (allowed : Bool)
+pub record IsPicked (members : Members) (next : Option Log) (slot target pick : ℕ) (allowed : Bool)
     : Type 0 where
   pub is : next ≡ Some (Pick pick 1)
-  pub exact : (allowed ≡ true) ↔ AllowedAt loaded pick slot target
+  pub exact : (allowed ≡ true) ↔ AllowedAt members pick slot target
 
 -- a check whose target is none of the code picks nothing
-abbrev pub TakesPick : (inside : Bool) → List LoadedModule → Option Log → (slot target pick : ℕ) → (allowed : Bool)
+abbrev pub TakesPick : (inside : Bool) → Members → Option Log → (slot target pick : ℕ) → (allowed : Bool)
     → Type 0
-TakesPick true loaded next slot target pick allowed = IsPicked loaded next slot target pick allowed
-TakesPick false loaded next slot target pick allowed = ⊤
+TakesPick true members next slot target pick allowed = IsPicked members next slot target pick allowed
+TakesPick false members next slot target pick allowed = ⊤
 
 -- an open that can be logged has the next answer of the log, each other has found too many
-abbrev pub TakesAnswer : Cells → (asked : Bool) → List LoadedModule → State → Option Log → Reply → Type 0
-TakesAnswer cells true loaded s next reply = IsReplyOf cells loaded s next reply
-TakesAnswer cells false loaded s next reply = reply ≡ too_many
+abbrev pub TakesAnswer : Cells → (asked : Bool) → Members → State → Option Log → Reply → Type 0
+TakesAnswer cells true members s next reply = IsReplyOf cells members s next reply
+TakesAnswer cells false members s next reply = reply ≡ too_many
 
 -- what a unit takes from the log
-abbrev pub TakesFrom : Cells → List LoadedModule → Option Log → CodeUnit → State → (pick : ℕ) → (allowed : Bool)
+abbrev pub TakesFrom : Cells → Members → Option Log → CodeUnit → State → (pick : ℕ) → (allowed : Bool)
     → Reply → Type 0
-TakesFrom cells loaded next (units.Check link rs1 imm slot) s pick allowed reply =
-    let target = displaced (register s rs1) imm in TakesPick (is_in_code target) loaded next slot target pick allowed
-TakesFrom cells loaded next units.Service s pick allowed reply = TakesAnswer cells (asks s) loaded s next reply
-TakesFrom cells loaded next unit s pick allowed reply = ⊤
+TakesFrom cells members next (units.Check link rs1 imm slot) s pick allowed reply =
+    let target = displaced (register s rs1) imm in TakesPick (is_in_code target) members next slot target pick allowed
+TakesFrom cells members next units.Service s pick allowed reply = TakesAnswer cells (asks s) members s next reply
+TakesFrom cells members next unit s pick allowed reply = ⊤
 
 -- a guest that has not stopped runs a unit of the code
-pub record IsReplayed (cells : Cells) (code : List ℕ) (loaded : List LoadedModule) (log : List Log) (old new : State)
+pub record IsReplayed (cells : Cells) (code : List ℕ) (members : Members) (log : List Log) (old new : State)
     : Type 0 where
   pub going : old.stop ≡ None
   pub unit : CodeUnit
@@ -85,15 +85,15 @@ pub record IsReplayed (cells : Cells) (code : List ℕ) (loaded : List LoadedMod
   pub pick : ℕ
   pub allowed : Bool
   pub reply : Reply
-  pub takes : TakesFrom cells loaded (next_in log old) unit old pick allowed reply
+  pub takes : TakesFrom cells members (next_in log old) unit old pick allowed reply
   pub is : new ≡ effect unit pick (λ slot target. allowed) reply old
 
 -- and so many units
-abbrev pub Replays : Cells → (code : List ℕ) → List LoadedModule → (log : List Log) → (count : ℕ) → (old new : State)
+abbrev pub Replays : Cells → (code : List ℕ) → Members → (log : List Log) → (count : ℕ) → (old new : State)
     → Type 0
-Replays cells code loaded log zero old new = new ≡ old
-Replays cells code loaded log (suc count) old new =
-    (mid : State) × Replays cells code loaded log count old mid × IsReplayed cells code loaded log mid new
+Replays cells code members log zero old new = new ≡ old
+Replays cells code members log (suc count) old new =
+    (mid : State) × Replays cells code members log count old mid × IsReplayed cells code members log mid new
 
 -- a stop by the fuel, and none, is shown as none
 abbrev pub shown_stop : Option Stop → Option Stop

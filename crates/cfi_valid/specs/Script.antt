@@ -8,15 +8,17 @@ use Rattle.cfi_plan.specs.declared.journal.Who.TheVariants.{Script, Guest}
 use Rattle.cfi_plan.specs.declared.plan.ScriptLine.{ScriptLine}
 use Rattle.cfi_plan.specs.declared.plan.ScriptLine.TheVariants as script
 
--- a call: the load of a module, by its number, or one refresh
+-- a call: the load of a module or its retirement, by its number, or one refresh
 pub data Call : Type 0 where
   Load : (number : ℕ) → Call
   Refresh : Call
+  Retire : (number : ℕ) → Call
 
 -- the calls of a line of the script
 abbrev pub calls_of : ScriptLine → List Call
 calls_of (script.Load number) = Load number ∷ []
 calls_of (script.Refresh count) = replicate count Refresh
+calls_of (script.Retire number) = Retire number ∷ []
 
 -- those of the whole script
 abbrev pub script_calls : List ScriptLine → List Call
@@ -31,9 +33,15 @@ call_of (lines.LoadPlace number fault) = Load number
 call_of (lines.LoadVerify number fault place) = Load number
 call_of (lines.LoadVersions number guest quiet) = Load number
 call_of (lines.LoadEpochs number) = Load number
+call_of (lines.LoadRetired number) = Load number
 call_of (lines.RefreshOk epoch) = Refresh
 call_of (lines.RefreshVersions guest quiet) = Refresh
 call_of lines.RefreshEpochs = Refresh
+call_of (lines.RetireOk number epoch policy) = Retire number
+call_of (lines.RetireNotLive number) = Retire number
+call_of (lines.RetireInUse number user) = Retire number
+call_of (lines.RetireVersions number guest quiet) = Retire number
+call_of (lines.RetireEpochs number) = Retire number
 
 -- the script asked
 abbrev pub is_script : Who → Bool

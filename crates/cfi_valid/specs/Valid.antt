@@ -1,8 +1,8 @@
 -- Valid reports: what a report has to say of a run of a plan and its modules, which come one a module line, in order.
 -- It is a relation between the three, and looks into no run. It has seven parts: modules, journal, script, guests,
 -- replay, log and steps. Each decides on its own: the modules by those lines of the journal alone that say that one was
--- loaded, the journal by its lines, the script by who asked; and each guest by what it says, against the modules and
--- the force.
+-- loaded or retired, the journal by its lines, the script by who asked; and each guest by what it says, against the
+-- modules and the force.
 use Rattle.std.specs.Prelude.{◌≡◌, ℕ, List, length, slice_get, Some}
 use Rattle.cfi_aux.specs.declared.modules.Module.{Module}
 use Rattle.cfi_plan.specs.declared.plan.Plan.{Plan}

@@ -14,3 +14,6 @@ pub const VERSIONS_SPENT: u32 = 5;
 
 /// The epochs are used up.
 pub const EPOCHS_SPENT: u32 = 6;
+
+/// The module was retired.
+pub const RETIRED: u32 = 11;

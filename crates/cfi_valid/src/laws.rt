@@ -10,7 +10,8 @@ ghost use Rattle.cfi_valid.specs.Agree.{AgreeIn};
 ghost use Rattle.cfi_plan.specs.Bare.{bare_plan};
 ghost use Rattle.cfi_valid.specs.Example.{hello_module, hello_report};
 ghost use Rattle.cfi_valid.specs.FromLaw.{StepsAreUnits};
-ghost use Rattle.cfi_valid.specs.Growth.{IsLater, LoadedStays, LogStays, SettledLies, LogGrows, PicksGrow};
+ghost use Rattle.cfi_valid.specs.Growth.{IsLater, LoadedStays, LiveStays, LogStays};
+ghost use Rattle.cfi_valid.specs.Growth.{SettledLies, LogGrows, PicksGrow};
 ghost use Rattle.cfi_valid.specs.Journal.{JournalState, EntryLeads, EntriesLead, IsJournal};
 ghost use Rattle.cfi_modules.specs.Series.{IsSeries};
 ghost use Rattle.cfi_valid.specs.Loaded.{LoadedModule, placed_modules, module_line_of};
@@ -41,8 +42,8 @@ pub fn journals_grow_by_a_line()
         × EntryLeads plan modules mid entry new }
 {}
 
-/// The lines that say that a module was loaded tell which modules a report has and where they stand, whether the
-/// journal is legal or not; a legal one leads to these.
+/// The lines that say that a module was loaded or retired tell which modules a report has and where they stand, whether
+/// the journal is legal or not; a legal one leads to these.
 pub fn lines_tell_modules()
     ensures one { (plan : Plan) (modules : List Module) (report : Report)
         (a b : List LoadedModule) → HasModules plan modules report a →
@@ -68,11 +69,13 @@ pub fn valid_reports_agree()
         → AgreeIn a b }
 {}
 
-/// Where a journal goes on, each policy finds loaded what it found loaded, and what a guest has logged still fits.
+/// Where a journal goes on, each policy finds loaded what it found loaded, what was live under it is live under it, and
+/// what a guest has logged still fits.
 pub fn what_was_logged_stays()
     ensures later { (plan : Plan) (modules : List Module) (old new : JournalState)
         (journal : List Entry) → EntriesLead plan modules old journal new → IsLater old new }
     ensures loaded { LoadedStays }
+    ensures live { LiveStays }
     ensures log { LogStays }
 {}
 

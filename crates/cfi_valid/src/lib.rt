@@ -14,6 +14,8 @@ mod causes;
 pub mod laws;
 mod limits;
 pub mod refusals;
+mod retirement;
 
-pub use causes::{EPOCHS_SPENT, MODULES_FULL, NOT_PLACED, NOT_VERIFIED, VERSIONS_SPENT};
+pub use causes::{EPOCHS_SPENT, MODULES_FULL, NOT_PLACED, NOT_VERIFIED, RETIRED, VERSIONS_SPENT};
 pub use limits::MAX_LOADED;
+pub use retirement::Retirement;

@@ -18,10 +18,10 @@ use Rattle.cfi_unit.specs.declared.log.Stop.{Stop}
 use Rattle.cfi_unit.specs.declared.log.Stop.TheVariants.{Exit}
 use Rattle.cfi_valid.specs.declared.causes.TheConstants.{VERSIONS_SPENT}
 use Rattle.cfi_valid.specs.Agree.{EndsAlike}
-use Rattle.cfi_valid.specs.Journal.{JournalState, IsJournal}
+use Rattle.cfi_valid.specs.Journal.{JournalState, members_of, IsJournal}
 use Rattle.cfi_valid.specs.Lies.{opening, opening_by, opening_logged, opening_at, opening_alone, opening_asked, scripted, IsOpening}
 use Rattle.cfi_valid.specs.LoadExample.{load_plan, line_at, load_part}
-use Rattle.cfi_valid.specs.Loaded.{LoadedModule, Filled, loaded_by, module_line_of}
+use Rattle.cfi_valid.specs.Loaded.{LoadedModule, Filled, live_at, module_line_of}
 use Rattle.cfi_valid.specs.Log.{HasFunctionAt}
 use Rattle.cfi_valid.specs.Modules.{origin_of}
 use Rattle.cfi_valid.specs.Parts.{FitsEndedSteps}
@@ -159,7 +159,7 @@ one_address n is =
     let report : Report = opening_logged (Open 1 n 1 ∷ Pick 1 2 ∷ []) in
     let part : GuestPart = record load_part { log = Open 1 n 1 ∷ Pick 1 2 ∷ [] } in
     let there : HasFunctionAt loaded 1 n =
-    subst (λ (s : JournalState). HasFunctionAt (loaded_by 1 s.loaded) 1 n) (end_is report refl is)
+    subst (λ (s : JournalState). HasFunctionAt (live_at 1 (members_of s)) 1 n) (end_is report refl is)
     ((is.log 0 part refl).opens 0 1 n 1 refl) in
     function_once n 144 there plug_open
 

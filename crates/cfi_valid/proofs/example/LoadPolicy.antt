@@ -14,7 +14,8 @@ use Rattle.cfi_graph.specs.Direct.{DirectEdge, Allowed}
 use Rattle.cfi_type_table.specs.Kind.{nodes_of}
 use Rattle.cfi_type_table.specs.Node.{Node, node_of}
 use Rattle.cfi_types.specs.Same.{Same}
-use Rattle.cfi_valid.proofs.example.LoadPlaced.{whole, calls, returns, opener_units, plug_units, opener_placed, plug_placed, fit, plug_fit}
+use Rattle.cfi_valid.proofs.example.LoadPlaced.{whole, calls, returns, opener_units, plug_units, opener_placed, plug_placed}
+use Rattle.cfi_valid.proofs.example.FitLemmas.{stands_in}
 
 -- a type is equal to itself
 each_same : {X : Type 0} (R : X → X → Type 0) → ((x : X) → R x x) → (xs : List X) → AllZip R xs xs
@@ -35,22 +36,10 @@ abbrev entered : PlacedFunction
 entered = whole (codes "plug") 14
 
 call_stands : Stands opener_placed 3 calls
-call_stands = record {
-  code = opener_units;
-  units = record { fit = fit; spelled = refl };
-  number = 3;
-  is = refl;
-  place = refl;
-}
+call_stands = stands_in opener_placed opener_units refl refl 3 calls refl
 
 return_stands : Stands plug_placed 0 returns
-return_stands = record {
-  code = plug_units;
-  units = record { fit = plug_fit; spelled = refl };
-  number = 0;
-  is = refl;
-  place = refl;
-}
+return_stands = stands_in plug_placed plug_units refl refl 0 returns refl
 
 call_kind : HasKind opener_placed 0 (Call FUNCTION_TYPE)
 call_kind = (0, refl, refl)

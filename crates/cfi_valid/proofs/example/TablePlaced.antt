@@ -1,7 +1,6 @@
 -- The three modules of the run with tables at their places: their words, units and functions.
-use Rattle.std.proofs.Common.{ℕ, pos, negsuc, Bool, true, false, List, [], ◌∷◌, refl, arith}
+use Rattle.std.proofs.Common.{ℕ, pos, negsuc, Bool, true, false, List, [], ◌∷◌, refl}
 use Rattle.std.specs.Prelude.{codes}
-use Rattle.std.specs.List.{AllByRecursion}
 use Rattle.rv_insn.specs.declared.insn.ImmOp.TheVariants.{Addi, Slli}
 use Rattle.rv_insn.specs.declared.insn.Insn.TheVariants.{Auipc, OpImm, Op}
 use Rattle.rv_insn.specs.declared.insn.LoadKind.TheVariants.{Lw}
@@ -10,7 +9,6 @@ use Rattle.cfi_aux.specs.declared.placed.Placed.{Placed}
 use Rattle.cfi_aux.specs.declared.placed.PlacedFunction.{PlacedFunction}
 use Rattle.cfi_unit.specs.declared.unit.Unit.{Unit as CodeUnit}
 use Rattle.cfi_unit.specs.declared.unit.Unit.TheVariants.{Plain, Load, Jump, Check, Service}
-use Rattle.cfi_unit.specs.Unit.{IsUnit}
 use Rattle.cfi_valid.specs.TableExample.{lib_types, lib_branches, main_types, main_branches, plug_types, plug_branches}
 
 abbrev pub function_of : (name : List ℕ) → (first count ty : ℕ) → (taken global : Bool) → PlacedFunction
@@ -44,72 +42,6 @@ lib_units =
     ∷ Plain (OpImm Addi 5 5 (negsuc 275)) ∷ Plain (OpImm Slli 6 10 (pos 2)) ∷ Plain (Op Add 5 5 6) ∷ Load Lw 5 5
     (pos 0) ∷ Check false 5 (pos 0) 3 ∷ Plain (OpImm Addi 10 0 (pos 65)) ∷ Check false 1 (pos 0) 4 ∷ Plain (OpImm
     Addi 10 0 (pos 66)) ∷ Check false 1 (pos 0) 5 ∷ []
-
-pub lib_fit : AllByRecursion IsUnit lib_units
-lib_fit = (
-  (omega arith, omega arith, omega arith),
-  (
-    (omega arith, omega arith, omega arith),
-    (
-      (omega arith, omega arith, omega arith),
-      (
-        (omega arith, omega arith, omega arith),
-        (
-          (omega arith, omega arith),
-          (
-            (omega arith, omega arith, omega arith),
-            (
-              (omega arith, omega arith, omega arith),
-              (
-                (omega arith, omega arith, omega arith),
-                (
-                  (omega arith, omega arith, omega arith),
-                  (
-                    (omega arith, omega arith, omega arith),
-                    (
-                      (omega arith, omega arith, omega arith),
-                      (
-                        (omega arith, omega arith),
-                        (
-                          (omega arith, omega arith, omega arith),
-                          (
-                            (omega arith, omega arith, omega arith),
-                            (
-                              (omega arith, omega arith, omega arith),
-                              (
-                                (omega arith, omega arith, omega arith),
-                                (
-                                  (omega arith, omega arith, omega arith),
-                                  (
-                                    (omega arith, omega arith, omega arith),
-                                    (
-                                      (omega arith, omega arith, omega arith),
-                                      (
-                                        (omega arith, omega arith, omega arith),
-                                        (
-                                          (omega arith, omega arith, omega arith),
-                                          tt,
-                                        ),
-                                      ),
-                                    ),
-                                  ),
-                                ),
-                              ),
-                            ),
-                          ),
-                        ),
-                      ),
-                    ),
-                  ),
-                ),
-              ),
-            ),
-          ),
-        ),
-      ),
-    ),
-  ),
-)
 
 abbrev pub twice : PlacedFunction
 twice = function_of (codes "twice") 0 15 1 true false
@@ -155,69 +87,6 @@ main_units =
     Addi 10 0 (pos 7)) ∷ Check true 5 (pos 0) 6 ∷ Plain (OpImm Addi 17 0 (pos 2)) ∷ Service ∷ Plain (OpImm Addi 10 0
     (pos 0)) ∷ Plain (OpImm Addi 17 0 (pos 1)) ∷ Service ∷ Jump false (pos 0) ∷ []
 
-pub main_fit : AllByRecursion IsUnit main_units
-main_fit = (
-  (omega arith, omega arith, omega arith),
-  (
-    (omega arith, refl),
-    (
-      (omega arith, omega arith, omega arith),
-      (
-        tt,
-        (
-          (omega arith, omega arith, omega arith),
-          (
-            (omega arith, refl),
-            (
-              (omega arith, omega arith, omega arith),
-              (
-                tt,
-                (
-                  (omega arith, omega arith, omega arith),
-                  (
-                    (omega arith, omega arith, omega arith),
-                    (
-                      tt,
-                      (
-                        (omega arith, omega arith, omega arith),
-                        (
-                          (omega arith, omega arith, omega arith),
-                          (
-                            (omega arith, omega arith, omega arith),
-                            (
-                              (omega arith, omega arith, omega arith),
-                              (
-                                tt,
-                                (
-                                  (omega arith, omega arith, omega arith),
-                                  (
-                                    (omega arith, omega arith, omega arith),
-                                    (
-                                      tt,
-                                      (
-                                        (omega arith, refl),
-                                        tt,
-                                      ),
-                                    ),
-                                  ),
-                                ),
-                              ),
-                            ),
-                          ),
-                        ),
-                      ),
-                    ),
-                  ),
-                ),
-              ),
-            ),
-          ),
-        ),
-      ),
-    ),
-  ),
-)
-
 abbrev pub start : PlacedFunction
 start = function_of (codes "_start") 0 33 3 false true
 
@@ -245,15 +114,6 @@ plug_code =
 abbrev pub plug_units : List CodeUnit
 plug_units =
     Plain (OpImm Addi 10 10 (pos 60)) ∷ Check false 1 (pos 0) 7 ∷ []
-
-pub plug_fit : AllByRecursion IsUnit plug_units
-plug_fit = (
-  (omega arith, omega arith, omega arith),
-  (
-    (omega arith, omega arith, omega arith),
-    tt,
-  ),
-)
 
 abbrev pub plus60 : PlacedFunction
 plus60 = function_of (codes "plus60") 0 15 1 true true

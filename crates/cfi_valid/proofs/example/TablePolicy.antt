@@ -8,8 +8,9 @@ use Rattle.cfi_graph.specs.Direct.{DirectEdge, Allowed}
 use Rattle.cfi_types.specs.Same.{Same}
 use Rattle.cfi_unit.specs.declared.unit.Unit.TheVariants.{Jump, Check}
 use Rattle.cfi_valid.specs.TableExample.{lib_types, main_types, plug_types}
+use Rattle.cfi_valid.proofs.example.FitLemmas.{stands_in}
 use Rattle.cfi_valid.proofs.example.LoadPolicy.{type_same}
-use Rattle.cfi_valid.proofs.example.TablePlaced.{lib_units, lib_fit, twice, sel, choose, lib_placed, main_units, main_fit, main_placed, plug_units, plug_fit, plus60, plug_placed}
+use Rattle.cfi_valid.proofs.example.TablePlaced.{lib_units, twice, sel, choose, lib_placed, main_units, main_placed, plug_units, plus60, plug_placed}
 
 -- the modules that are there from the start, and all
 abbrev pub before : List Placed
@@ -39,13 +40,7 @@ is_choose : IsFunction before lib_placed choose
 is_choose = record { placed = (0, omega arith, refl); function = (3, omega arith, refl) }
 
 tail_stands : Stands lib_placed 41 (Check false 5 (pos 0) 2)
-tail_stands = record {
-  code = lib_units;
-  units = record { fit = lib_fit; spelled = refl };
-  number = 10;
-  is = refl;
-  place = refl;
-}
+tail_stands = stands_in lib_placed lib_units refl refl 10 (Check false 5 (pos 0) 2) refl
 
 tail_kind : HasKind lib_placed 2 (Tail 1)
 tail_kind = (2, refl, refl)
@@ -71,31 +66,13 @@ pub tail_allowed : Allowed before 2 64
 tail_allowed = record { more = 0; chain = tail_edge }
 
 twice_stands : Stands lib_placed 1 (Check false 1 (pos 0) 0)
-twice_stands = record {
-  code = lib_units;
-  units = record { fit = lib_fit; spelled = refl };
-  number = 1;
-  is = refl;
-  place = refl;
-}
+twice_stands = stands_in lib_placed lib_units refl refl 1 (Check false 1 (pos 0) 0) refl
 
 first_call_stands : Stands main_placed 1 (Jump true (negsuc 319))
-first_call_stands = record {
-  code = main_units;
-  units = record { fit = main_fit; spelled = refl };
-  number = 1;
-  is = refl;
-  place = refl;
-}
+first_call_stands = stands_in main_placed main_units refl refl 1 (Jump true (negsuc 319)) refl
 
 second_call_stands : Stands main_placed 5 (Jump true (negsuc 235))
-second_call_stands = record {
-  code = main_units;
-  units = record { fit = main_fit; spelled = refl };
-  number = 5;
-  is = refl;
-  place = refl;
-}
+second_call_stands = stands_in main_placed main_units refl refl 5 (Jump true (negsuc 235)) refl
 
 sel_tails : TailCalls before lib_placed sel lib_placed twice
 sel_tails = record {
@@ -142,13 +119,7 @@ pub twice_allowed : Allowed before 0 508
 twice_allowed = record { more = 0; chain = twice_edge }
 
 case_stands : Stands lib_placed 65 (Check false 5 (pos 0) 3)
-case_stands = record {
-  code = lib_units;
-  units = record { fit = lib_fit; spelled = refl };
-  number = 16;
-  is = refl;
-  place = refl;
-}
+case_stands = stands_in lib_placed lib_units refl refl 16 (Check false 5 (pos 0) 3) refl
 
 case_edge : DirectEdge before 3 440
 case_edge = record {
@@ -168,13 +139,7 @@ pub case_allowed : Allowed before 3 440
 case_allowed = record { more = 0; chain = case_edge }
 
 choose_stands : Stands lib_placed 95 (Check false 1 (pos 0) 5)
-choose_stands = record {
-  code = lib_units;
-  units = record { fit = lib_fit; spelled = refl };
-  number = 20;
-  is = refl;
-  place = refl;
-}
+choose_stands = stands_in lib_placed lib_units refl refl 20 (Check false 1 (pos 0) 5) refl
 
 choose_edge : DirectEdge before 5 524
 choose_edge = record {
@@ -217,13 +182,7 @@ is_plus60 : IsFunction all plug_placed plus60
 is_plus60 = record { placed = (2, omega arith, refl); function = (0, omega arith, refl) }
 
 call_stands : Stands main_placed 13 (Check true 5 (pos 0) 6)
-call_stands = record {
-  code = main_units;
-  units = record { fit = main_fit; spelled = refl };
-  number = 13;
-  is = refl;
-  place = refl;
-}
+call_stands = stands_in main_placed main_units refl refl 13 (Check true 5 (pos 0) 6) refl
 
 call_kind : HasKind main_placed 6 (Call 1)
 call_kind = (0, refl, refl)
@@ -249,13 +208,7 @@ pub call_allowed : Allowed all 6 632
 call_allowed = record { more = 0; chain = call_edge }
 
 plus_stands : Stands plug_placed 1 (Check false 1 (pos 0) 7)
-plus_stands = record {
-  code = plug_units;
-  units = record { fit = plug_fit; spelled = refl };
-  number = 1;
-  is = refl;
-  place = refl;
-}
+plus_stands = stands_in plug_placed plug_units refl refl 1 (Check false 1 (pos 0) 7) refl
 
 plus_edge : DirectEdge all 7 608
 plus_edge = record {
