@@ -1,5 +1,5 @@
 -- The causes that a log tells, entry by entry and module by module.
-use Rattle.std.proofs.Common.{◌≡◌, ℕ, ◌+◌, ◌<◌, ◌≤◌, ◌&&◌, Bool, true, List, [], ◌∷◌, length, take, get_or, Some, ◌⊎◌, inl, inr, refl, sym, ap, subst, ◌∙◌, ⊎_elim, arith}
+use Rattle.std.proofs.Common.{◌≡◌, ℕ, ◌+◌, ◌<◌, ◌≤◌, Bool, true, List, [], ◌∷◌, length, take, get_or, Some, ◌⊎◌, inl, inr, refl, sym, ap, subst, ◌∙◌, ⊎_elim, arith}
 use Rattle.std.specs.Prelude.{◌↔◌, IsTrue, count_by, filter}
 use Rattle.std.specs.List.{slice_get}
 use Rattle.std.proofs.lemmas.Bool.{and_parts, eqb-true}
@@ -10,7 +10,7 @@ use Rattle.cfi_unit.specs.declared.log.Log.{Log}
 use Rattle.cfi_unit.specs.declared.log.Log.TheVariants.{Pick, Open, Cause}
 use Rattle.cfi_valid.specs.declared.causes.TheConstants.{VERSIONS_SPENT}
 use Rattle.cfi_valid.specs.Course.{Course}
-use Rattle.cfi_valid.specs.Log.{IsCaused, is_too_old, Why, why_of, NoModule, ModulesFull, NotPlaced, NotVerified, VersionsSpent, EpochsSpent, NoFunction, Unlogged}
+use Rattle.cfi_valid.specs.Log.{IsCaused, is_too_old, Why, why_of, NoModule, ModulesFull, NotPlaced, NotVerified, VersionsSpent, EpochsSpent, NoFunction, Retired, Unlogged}
 use Rattle.cfi_judge.specs.inner.Causes.{AreVersionsTold, HasCauseApart, HasCauses, HasCausesApart, IsCausedApart}
 use Rattle.cfi_judge.proofs.LogLemmas.{passed}
 
@@ -55,6 +55,7 @@ module _ (c : Course) (guest : ℕ) (log : List Log) where
   apart at number VersionsSpent is = inr is
   apart at number EpochsSpent is = is
   apart at number NoFunction is = is
+  apart at number Retired is = is
   apart at number Unlogged is = is
 
   pub all_apart : HasCauses c guest log → HasCausesApart c guest log
@@ -77,6 +78,7 @@ module _ (c : Course) (guest : ℕ) (log : List Log) where
     whole at number VersionsSpent (inr is) = is
     whole at number EpochsSpent is = is
     whole at number NoFunction is = is
+    whole at number Retired is = is
     whole at number Unlogged is = is
 
     pub all_whole : HasCausesApart c guest log → HasCauses c guest log

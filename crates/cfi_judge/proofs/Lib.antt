@@ -20,7 +20,10 @@ pub mod CourseLemmas
 pub mod AheadLemmas
 pub mod SpanLemmas
 pub mod RowLemmas
+pub mod LiveLemmas
+pub mod LeavingLemmas
 pub mod ReachedLemmas
+pub mod KnownLemmas
 pub mod CauseLemmas
 pub mod TrialLemmas
 pub mod PartLemmas

@@ -1,18 +1,20 @@
 -- Logs, entry by entry.
 use Rattle.std.proofs.Common.{◌≡◌, ℕ, zero, suc, ◌+◌, ◌<◌, ◌≤◌, Bool, true, false, cond, List, [], ◌∷◌, length, drop, Some, refl, sym, ap, subst, ◌∙◌, ⊎_elim, arith}
-use Rattle.std.specs.Prelude.{◌↔◌, filter, nat_le}
+use Rattle.std.specs.Prelude.{◌↔◌, filter}
 use Rattle.std.specs.List.{Contains, slice_get, fold}
-use Rattle.std.proofs.lemmas.Bool.{cases_lt, le-leb, leb-true}
+use Rattle.std.proofs.lemmas.Bool.{cases_lt}
 use Rattle.std.proofs.lemmas.Option.{slice_get_within}
 use Rattle.cfi_graph.proofs.BoundLemmas.{contains_at, at_contains}
 use Rattle.cfi_aux.specs.declared.placed.Placed.{Placed}
 use Rattle.cfi_model.specs.Log.{last_policy, policy_after}
 use Rattle.cfi_plan.specs.declared.journal.ModuleLine.{ModuleLine}
-use Rattle.cfi_ledger.specs.Roster.{Roster, loaded_in_roster, origin_of}
+use Rattle.cfi_labels.specs.Live.{is_live_line}
+use Rattle.cfi_ledger.specs.Roster.{Roster, loaded_in_roster, members_in_roster, origin_of}
 use Rattle.cfi_unit.specs.declared.log.Log.{Log}
 use Rattle.cfi_unit.specs.declared.log.Log.TheVariants.{Open}
 use Rattle.cfi_valid.specs.Kept.{module_from}
-use Rattle.cfi_valid.specs.Loaded.{LoadedModule, loaded_by}
+use Rattle.cfi_valid.specs.Loaded.{LoadedModule, Members, is_live, live_at}
+use Rattle.cfi_valid.specs.declared.retirement.Retirement.{Retirement}
 use Rattle.cfi_valid.specs.Log.{NeverFall}
 use Rattle.cfi_valid.proofs.KeptLemmas.{loaded_at, many_are}
 use Rattle.cfi_judge.specs.inner.Log.{HasOpens, HasOpen, IsThere}
@@ -77,22 +79,38 @@ within_other lines placed at within r lined lines_are placed_are =
     let place_count : length placed ≡ length r.placed = ap (λ (ps : List Placed). length ps) placed_are in
     omega (arith, within, lined, line_count, place_count)
 
-module _ (P : Placed → Type 0) (number policy : ℕ) where
-  -- none of the first modules is the one
-  abbrev pub NoneBelow : List ModuleLine → List Placed → (at : ℕ) → Type 0
-  NoneBelow lines placed at =
-      (k : ℕ) (line : ModuleLine) (p : Placed) → k < at → slice_get lines k ≡ Some line → slice_get placed k ≡ Some p
-      → ¬ IsThere P line p number policy
+-- something holds of none of the first modules
+abbrev pub NoneBelow : (Q : ModuleLine → Placed → Type 0) → List ModuleLine → List Placed → (at : ℕ) → Type 0
+NoneBelow Q lines placed at =
+    (k : ℕ) (line : ModuleLine) (p : Placed) → k < at → slice_get lines k ≡ Some line → slice_get placed k ≡ Some p
+    → ¬ Q line p
 
-  -- a module that the policy finds loaded is
-  pub record HasOne (loaded : List LoadedModule) : Type 0 where
+-- nor of one more
+pub none_next : (Q : ModuleLine → Placed → Type 0) (lines : List ModuleLine) (placed : List Placed) (at : ℕ)
+    (line : ModuleLine) (p : Placed) → slice_get lines at ≡ Some line → slice_get placed at ≡ Some p → ¬ Q line p
+    → NoneBelow Q lines placed at → NoneBelow Q lines placed (at + 1)
+none_next Q lines placed at line p line_is place_is never below = λ k other q less other_is q_is. ⊎_elim
+    (λ (early : k < at). below k other q early other_is q_is)
+    (λ (late : at ≤ k).
+    let same : at ≡ k = omega (arith, less, late) in
+    let lines_same : Some line ≡ Some other = sym line_is ∙ ap (slice_get lines) same ∙ other_is in
+    let places_same : Some p ≡ Some q = sym place_is ∙ ap (slice_get placed) same ∙ q_is in
+    let line_same : line ≡ other = cc in
+    let place_same : p ≡ q = cc in
+    subst (λ (l : ModuleLine). ¬ Q l q) line_same (subst (λ (x : Placed). ¬ Q line x) place_same never))
+    (cases_lt k at)
+
+module _ (P : Placed → Type 0) (number policy : ℕ) where
+  -- a module that is live under the policy is the one
+  pub record HasOne (members : Members) : Type 0 where
     pub one : LoadedModule
-    pub has : Contains (loaded_by policy loaded) one
+    pub has : Contains (live_at policy members) one
     pub is : one.number ≡ number
     pub holds : P one.placed
 
   module _ (r : Roster) (lined : IsLined r) (lines : List ModuleLine) (lines_are : lines ≡ r.lines)
-      (placed : List Placed) (placed_are : placed ≡ r.placed) where
+      (placed : List Placed) (placed_are : placed ≡ r.placed) (retired : List Retirement)
+      (retired_are : retired ≡ r.retired) where
     abbrev loaded : List LoadedModule
     loaded = loaded_in_roster r
 
@@ -106,41 +124,35 @@ module _ (P : Placed → Type 0) (number policy : ℕ) where
         (sym (ap (λ (ls : List ModuleLine). slice_get ls at) lines_are) ∙ line_is)
         (sym (ap (λ (ps : List Placed). slice_get ps at) placed_are) ∙ place_is)
 
-    -- one is
+    -- one at a place is
     pub one_here : (at : ℕ) (line : ModuleLine) (p : Placed) → slice_get lines at ≡ Some line
-        → slice_get placed at ≡ Some p → IsThere P line p number policy → HasOne loaded
+        → slice_get placed at ≡ Some p → IsThere P retired line p number policy → HasOne (members_in_roster r)
     one_here at line p line_is place_is found =
         let one : LoadedModule = at_place line p in
-        let kept = passes (λ (l : LoadedModule). nat_le l.policy policy) loaded one at
-        (there at line p line_is place_is) (le-leb line.policy policy found.came) in
+        let lives : is_live policy r.retired one ≡ true =
+        ap (λ (rs : List Retirement). is_live_line policy rs line) (sym retired_are) ∙ found.lives in
+        let kept = passes (is_live policy r.retired) loaded one at (there at line p line_is place_is) lives in
         record {
           one = one;
-          has = contains_at (loaded_by policy loaded) kept.0 one kept.1;
+          has = contains_at (live_at policy (members_in_roster r)) kept.0 one kept.1;
           is = found.is;
           holds = found.holds;
         }
 
-    -- one more is not
-    pub none_next : (at : ℕ) (line : ModuleLine) (p : Placed) → slice_get lines at ≡ Some line
-        → slice_get placed at ≡ Some p → ¬ IsThere P line p number policy → NoneBelow lines placed at
-        → NoneBelow lines placed (at + 1)
-    none_next at line p line_is place_is never below = λ k other q less other_is q_is. ⊎_elim
-        (λ (early : k < at). below k other q early other_is q_is)
-        (λ (late : at ≤ k).
-        let same : at ≡ k = omega (arith, less, late) in
-        let lines_same : Some line ≡ Some other = sym line_is ∙ ap (slice_get lines) same ∙ other_is in
-        let places_same : Some p ≡ Some q = sym place_is ∙ ap (slice_get placed) same ∙ q_is in
-        let line_same : line ≡ other = cc in
-        let place_same : p ≡ q = cc in
-        subst (λ (l : ModuleLine). ¬ IsThere P l q number policy) line_same
-        (subst (λ (x : Placed). ¬ IsThere P line x number policy) place_same never))
-        (cases_lt k at)
+    -- it stands at a place
+    pub record StandsHere : Type 0 where
+      pub at : ℕ
+      pub line : ModuleLine
+      pub p : Placed
+      pub within : at < length lines
+      pub line_is : slice_get lines at ≡ Some line
+      pub place_is : slice_get placed at ≡ Some p
+      pub found : IsThere P retired line p number policy
 
-    -- none is
-    pub none_here : (at : ℕ) → length lines ≤ at → NoneBelow lines placed at → ¬ HasOne loaded
-    none_here at all below has =
-        let kept = passed (λ (l : LoadedModule). nat_le l.policy policy) loaded has.one has.has.0
-        (at_contains (loaded_by policy loaded) has.one has.has) in
+    pub one_there : HasOne (members_in_roster r) → StandsHere
+    one_there has =
+        let kept = passed (is_live policy r.retired) loaded has.one has.has.0
+        (at_contains (live_at policy (members_in_roster r)) has.one has.has) in
         let k : ℕ = kept.0 in
         let many : length loaded ≡ length r.placed = many_are origin_of r.lines r.placed lined in
         let inside : k < length loaded = slice_get_within loaded k has.one kept.1 in
@@ -151,37 +163,37 @@ module _ (P : Placed → Type 0) (number policy : ℕ) where
         let both : Some has.one ≡ Some (at_place line.0 place.0) =
         sym kept.1 ∙ there k line.0 place.0 line.1 place.1 in
         let same : has.one ≡ at_place line.0 place.0 = cc in
-        below k line.0 place.0 (omega (arith, inside, many, lined, line_count, all)) line.1 place.1 (record {
-          is = sym (ap (λ (l : LoadedModule). l.number) same) ∙ has.is;
-          came = leb-true line.0.policy policy
-              (sym (ap (λ (l : LoadedModule). nat_le l.policy policy) same) ∙ kept.2);
-          holds = subst (λ (l : LoadedModule). P l.placed) same has.holds;
-        })
+        record {
+          at = k;
+          line = line.0;
+          p = place.0;
+          within = omega (arith, inside, many, lined, line_count);
+          line_is = line.1;
+          place_is = place.1;
+          found = record {
+            is = sym (ap (λ (l : LoadedModule). l.number) same) ∙ has.is;
+            lives = ap (λ (rs : List Retirement). is_live_line policy rs line.0) retired_are
+                ∙ sym (ap (is_live policy r.retired) same) ∙ kept.2;
+            holds = subst (λ (l : LoadedModule). P l.placed) same has.holds;
+          };
+        }
 
--- a later policy finds it loaded too
-pub one_later : (P : Placed → Type 0) (number less more : ℕ) → less ≤ more → (loaded : List LoadedModule)
-    → HasOne P number less loaded → HasOne P number more loaded
-one_later P number less more within loaded has =
-    let kept = passed (λ (l : LoadedModule). nat_le l.policy less) loaded has.one has.has.0
-    (at_contains (loaded_by less loaded) has.one has.has) in
-    let came : has.one.policy ≤ more = omega (arith, within, leb-true has.one.policy less kept.2) in
-    let still = passes (λ (l : LoadedModule). nat_le l.policy more) loaded has.one kept.0 kept.1
-    (le-leb has.one.policy more came) in
-    record {
-      one = has.one;
-      has = contains_at (loaded_by more loaded) still.0 has.one still.1;
-      is = has.is;
-      holds = has.holds;
-    }
+    -- where none of all is, there is none
+    pub none_here : (at : ℕ) → length lines ≤ at
+        → NoneBelow (λ line p. IsThere P retired line p number policy) lines placed at
+        → ¬ HasOne (members_in_roster r)
+    none_here at all below has =
+        let it = one_there has in
+        below it.at it.line it.p (omega (arith, it.within, all)) it.line_is it.place_is it.found
 
 -- ---- what a log says is open
 
 -- the first entries say what is so
-abbrev pub OpensBelow : List LoadedModule → List Log → (at : ℕ) → Type 0
-OpensBelow loaded log at = (k : ℕ) (entry : Log) → k < at → slice_get log k ≡ Some entry → HasOpen loaded entry
+abbrev pub OpensBelow : Members → List Log → (at : ℕ) → Type 0
+OpensBelow members log at = (k : ℕ) (entry : Log) → k < at → slice_get log k ≡ Some entry → HasOpen members entry
 
-module _ (loaded : List LoadedModule) (log : List Log) (at : ℕ) where
-  pub opens_all : length log ≤ at → OpensBelow loaded log at → HasOpens loaded log
+module _ (members : Members) (log : List Log) (at : ℕ) where
+  pub opens_all : length log ≤ at → OpensBelow members log at → HasOpens members log
   opens_all all below = λ k number address policy is.
       below k (Open number address policy) (omega (arith, all, slice_get_within log k (Open number address policy) is))
       is

@@ -26,6 +26,11 @@ pub yes_of : (b : Bool) → not b ≡ false → b ≡ true
 yes_of true other = refl
 yes_of false other = absurd (cc)
 
+-- an answer turned round
+pub no_is : (b : Bool) (P : Type 0) → (IsTrue b ↔ P) → IsTrue (not b) ↔ (¬ P)
+no_is true P exact = (λ same. absurd (cc), λ never. absurd (never (exact.0 refl)))
+no_is false P exact = (λ same holds. never_true (exact.1 holds), λ never. refl)
+
 -- an answer that asks for more, where the rest holds
 pub both : {P Q : Type 0} (b : Bool) → P → (IsTrue b ↔ Q) → IsTrue b ↔ (P × Q)
 both b holds exact = (λ yes. (holds, exact.0 yes), λ all. exact.1 all.1)

@@ -4,8 +4,8 @@ use Rattle.std.specs.Prelude.{◌↔◌, IfNone, IsTrue}
 use Rattle.std.specs.List.{slice_get}
 use Rattle.cfi_aux.specs.declared.modules.Module.{Module}
 use Rattle.cfi_ledger.specs.Plans.{CanStart}
-use Rattle.cfi_ledger.specs.Roster.{Roster, loaded_in_roster}
-use Rattle.cfi_ledger.proofs.PolicyLemmas.{journal_policies}
+use Rattle.cfi_ledger.specs.Roster.{Roster, members_in_roster}
+use Rattle.cfi_ledger.proofs.PolicyLemmas.{journal_policies, policies_left}
 use Rattle.cfi_model.specs.State.{State}
 use Rattle.cfi_plan.specs.declared.plan.Plan.{Plan}
 use Rattle.cfi_replay.specs.Setting.{CanReplay, ComesIn, ComesNowhere, IsCourseIn}
@@ -58,7 +58,7 @@ module _ (s : Setting) (part : GuestPart) where
 pub set_course : (t : Trial) (s : Setting) → IsSetIn t s → IsCourseIn s (course_in t)
 set_course t s here = record {
   plan_is = sym here.plan_is;
-  loaded_is = ap (λ (r : Roster). loaded_in_roster r) (sym here.roster_is);
+  members_are = ap (λ (r : Roster). members_in_roster r) (sym here.roster_is);
 }
 
 -- ---- what a log has to have
@@ -80,7 +80,7 @@ pub few_policies : (plan : Plan) (modules : List Module) (report : Report) (end 
     → HasJournal plan modules report end → end.policy ≤ MAX_POLICY
 few_policies plan modules report end can has =
     let have = journal_policies plan modules report.journal end can.most_starts has.course in
-    omega (arith, have.count, have.most)
+    omega (arith, policies_left plan end have)
 
 -- ---- all replays
 

@@ -1,7 +1,7 @@
 -- Where a start module does not join those before it, no modules are those of a report.
 use Rattle.std.proofs.Common.{◌≡◌, ◌≢◌, ℕ, zero, suc, ◌+◌, ◌<◌, Bool, true, false, cond, List, [], ◌∷◌, ◌++◌, length, map, take, drop, Some, refl, sym, ap, subst, ◌∙◌, arith, append_assoc, length-append}
 use Rattle.std.specs.List.{slice_get}
-use Rattle.std.proofs.lemmas.List.{length-map, length-take-le, map-append}
+use Rattle.std.proofs.lemmas.List.{length-map, length-take-le, map-append, take-map}
 use Rattle.std.proofs.lemmas.Option.{slice_get_within}
 use Rattle.cfi_aux.specs.declared.modules.Module.{Module}
 use Rattle.cfi_aux.specs.declared.placed.Placed.{Placed}
@@ -19,12 +19,12 @@ use Rattle.cfi_ledger.specs.declared.fault.StartFault.TheVariants.{Memory, Open}
 use Rattle.cfi_valid.specs.Journal.{modules_at, starts_from}
 use Rattle.cfi_valid.specs.Kept.{Origin}
 use Rattle.cfi_valid.specs.Loaded.{LoadedModule, placed_modules}
-use Rattle.cfi_valid.specs.Modules.{number_of, origin_of, start_origin, told_origins}
+use Rattle.cfi_valid.specs.Modules.{gone_before, number_of, origin_of, start_origin, told_origins}
 use Rattle.cfi_valid.specs.Opening.{IsFirstUnjoined}
 use Rattle.cfi_valid.proofs.OrderLemmas.{order_once}
 use Rattle.cfi_judge.specs.Modules.{HasSomeModules}
 use Rattle.cfi_judge.proofs.ItemLemmas.{found}
-use Rattle.cfi_judge.proofs.ListLemmas.{parts_same}
+use Rattle.cfi_judge.proofs.ListLemmas.{map_at, parts_same}
 use Rattle.cfi_judge.proofs.ModulesLemmas.{has_come}
 use Rattle.cfi_judge.proofs.ToldLemmas.{ComeFrom, behind_them, first_placed, many, numbers_told}
 
@@ -71,14 +71,17 @@ module _ (plan : Plan) (modules : List Module) (report : Report) (has : HasSomeM
       ∙ ap (λ (k : ℕ). before ++ starts_from k (first.line ∷ drop (suc number) plan.modules)) (omega (arith, long))
       ∙ ap (λ (b : Bool). before ++ cond b (number ∷ later) later) first.starts
 
-  come : ComeFrom plan modules (told_origins report.journal) has.0
+  abbrev gone : List (List ℕ)
+  gone = gone_before [] report.journal
+
+  come : ComeFrom plan modules (told_origins report.journal) gone has.0
   come = has_come plan modules report has.0 has.1
 
   within : length before < length has.0
   within =
       omega (
         arith,
-        many plan modules (told_origins report.journal) has.0 come,
+        many plan modules (told_origins report.journal) gone has.0 come,
         ap (λ (ns : List ℕ). length ns) starts_are,
         length-append before (number ∷ later),
       )
@@ -95,8 +98,8 @@ module _ (plan : Plan) (modules : List Module) (report : Report) (has : HasSomeM
   here : has.0 ≡ these ++ one ∷ those
   here = around has.0 (length before) one (found has.0 (length before) within).1
 
-  split : ComeFrom plan modules (told_origins report.journal) (these ++ one ∷ those)
-  split = subst (ComeFrom plan modules (told_origins report.journal)) here come
+  split : ComeFrom plan modules (told_origins report.journal) gone (these ++ one ∷ those)
+  split = subst (ComeFrom plan modules (told_origins report.journal) gone) here come
 
   so_many : length these ≡ length before
   so_many = length-take-le (length before) has.0 (omega (arith, within))
@@ -131,35 +134,43 @@ module _ (plan : Plan) (modules : List Module) (report : Report) (has : HasSomeM
 
   order : AreInOrder plan.code_words (modules_at modules before) (placed_modules these)
   order =
-      let placed = first_placed plan modules these (one ∷ those) split.places in
+      let placed = first_placed plan modules gone these (one ∷ those) split.places in
       subst (λ (ns : List ℕ). AreInOrder plan.code_words (modules_at modules ns) (placed_modules these)) numbers
       (record {
-        count = placed.count;
+        count = length-map these (λ (l : LoadedModule). l.placed) ∙ placed.count;
         joins = λ k m p is_m is_p.
-            placed.starts_join k m p
-            (omega (
+            let inside : k < length these =
+            omega (
               arith,
               slice_get_within (placed_modules these) k p is_p,
               length-map these (λ (l : LoadedModule). l.placed),
-              so_many,
-              few,
-            )) is_m is_p;
+            ) in
+            let it = found these k inside in
+            let both : Some it.0.placed ≡ Some p =
+            sym (map_at (λ (l : LoadedModule). l.placed) these k it.0 it.1) ∙ is_p in
+            let same : it.0.placed ≡ p = cc in
+            subst (λ (x : Placed).
+            Joins plan.code_words (take k (placed_modules these)) (take k (placed_modules these)) m x) same
+            (subst (λ (ps : List Placed). Joins plan.code_words ps ps m it.0.placed)
+            (sym (take-map (λ (l : LoadedModule). l.placed) k these))
+            (placed.starts_join k m it.0 (omega (arith, inside, so_many, few)) is_m it.1));
       })
 
-  joined : Joins plan.code_words first.before first.unplaced one.placed
+  joined : Joins plan.code_words first.before first.before first.unplaced one.placed
   joined =
       let places : placed_modules these ≡ first.before =
       order_once plan.code_words (modules_at modules before) (placed_modules these) first.before order first.order in
-      let behind = behind_them plan modules these one those split.places in
+      let behind = behind_them plan modules gone these one those split.places in
       let there : slice_get modules number ≡ Some behind.unplaced =
       ap (slice_get modules) (sym is_number) ∙ behind.is in
       let same : behind.unplaced ≡ first.unplaced = cc (there, first.is) in
-      subst (λ (m : Module). Joins plan.code_words first.before m one.placed) same
-      (subst (λ (ps : List Placed). Joins plan.code_words ps behind.unplaced one.placed) places
+      subst (λ (m : Module). Joins plan.code_words first.before first.before m one.placed) same
+      (subst (λ (ps : List Placed). Joins plan.code_words ps ps behind.unplaced one.placed) places
       (behind.joins (omega (arith, so_many, few))))
 
   pub only_memory : fault ≡ joins.Memory
-  only_memory = joins_or_refused plan.code_words first.before first.unplaced one.placed fault joined first.why
+  only_memory = joins_or_refused plan.code_words first.before first.before first.unplaced one.placed fault joined
+      first.why
 
 -- a start fault that is none of memory, nor of a guest
 pub never_told : (plan : Plan) (modules : List Module) (report : Report) (fault : StartFault)

@@ -6,7 +6,12 @@ use Rattle.cfi_judge.specs.declared.reached.Reached.{Reached}
 
 -- the state
 abbrev pub state_of : Reached → JournalState
-state_of r = record { epoch = r.epoch; policy = r.policy; loaded = loaded_in_roster r.roster }
+state_of r = record {
+  epoch = r.epoch;
+  policy = r.policy;
+  loaded = loaded_in_roster r.roster;
+  retired = r.roster.retired;
+}
 
 -- the modules stand in the code of the plan, with the line of a report each
 abbrev pub StandsIn : Plan → Reached → Type 0

@@ -2,6 +2,7 @@
 pub mod Faults
 pub mod Guests
 pub mod Meets
+pub mod Leaving
 pub mod Lines
 pub mod Rows
 pub mod Reached
@@ -14,4 +15,5 @@ pub mod Causes
 pub mod Trial
 pub mod Told
 pub mod Next
+pub mod Followed
 pub mod Runs

@@ -22,9 +22,15 @@ fn is_versions(guest: u32, number: u32, entry: &Entry) -> bool
         JournalLine::LoadPlace { .. } => false,
         JournalLine::LoadVerify { .. } => false,
         JournalLine::LoadEpochs { .. } => false,
+        JournalLine::LoadRetired { .. } => false,
         JournalLine::RefreshOk { .. } => false,
         JournalLine::RefreshVersions { .. } => false,
         JournalLine::RefreshEpochs => false,
+        JournalLine::RetireOk { .. } => false,
+        JournalLine::RetireNotLive { .. } => false,
+        JournalLine::RetireInUse { .. } => false,
+        JournalLine::RetireVersions { .. } => false,
+        JournalLine::RetireEpochs { .. } => false,
     }
 }
 

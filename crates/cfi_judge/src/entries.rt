@@ -2,16 +2,17 @@
 
 ghost use Rattle.std.specs.Prelude.{◌≡◌, ◌≢◌, ◌↔◌, IfErr, IfOk, IsTrue};
 ghost use Rattle.cfi_judge.specs.inner.Lines.{IsEntryFault, IsLineFault, change_of};
-ghost use Rattle.cfi_judge.specs.Reached.{StandsIn, state_of};
-ghost use Rattle.cfi_judge.specs.inner.Reached.{IsReached};
+ghost use Rattle.cfi_judge.specs.Reached.{state_of};
+ghost use Rattle.cfi_judge.specs.inner.Reached.{IsKeptIn, IsReached};
 ghost use Rattle.cfi_judge.specs.declared.entries.Change.TheVariants.{Nothing};
 ghost use Rattle.cfi_judge.specs.declared.fault.LineFault.TheVariants.{Illegal};
 ghost use Rattle.cfi_ledger.specs.Plans.{CanStart};
-ghost use Rattle.cfi_plan.specs.declared.journal.JournalLine.TheVariants.{LoadOk, RefreshOk};
+ghost use Rattle.cfi_plan.specs.declared.journal.JournalLine.TheVariants.{LoadOk, RefreshOk, RetireOk};
 ghost use Rattle.cfi_modules.specs.declared.fault.JoinFault.TheVariants.{Memory};
 ghost use Rattle.cfi_valid.specs.Journal.{EntryLeads, LineLeads, MayAsk, is_load};
 
 use crate::fault::{LineFault, must};
+use crate::leaving::Leaving;
 use crate::meeting::is_unloaded;
 use crate::reached::Reached;
 use cfi_aux::Module;
@@ -19,28 +20,32 @@ use cfi_ledger::Entrant;
 use cfi_modules::JoinFault;
 use cfi_plan::{Entry, JournalLine, Plan, Who};
 
-// A load, as a line tells it.
+/// A load or a retirement, as a line tells it.
 #[derive(Clone, Copy)]
-struct Load {
-    // The module's number.
-    number: u32,
-    // The epoch and the policy that came with it.
-    epoch: u32,
-    policy: u32,
+pub(crate) struct Update {
+    /// The module's number.
+    pub number: u32,
+    /// The epoch that came with it.
+    pub epoch: u32,
+    /// The policy that came with it.
+    pub policy: u32,
 }
 
-// What a line changes.
+/// What a line changes.
 #[derive(Clone, Copy)]
-enum Change {
-    // A module is loaded, in a new epoch.
-    Module(Load),
-    // There is a new epoch.
+pub(crate) enum Change {
+    /// A module is loaded, in a new epoch.
+    Module(Update),
+    /// One is retired, in a new epoch.
+    Retirement(Update),
+    /// There is a new epoch.
     Epoch(u32),
+    /// Nothing.
     Nothing,
 }
 
-// What a line changes.
-fn change_of(line: JournalLine) -> Change
+/// What a line changes.
+pub(crate) fn change_of(line: JournalLine) -> Change
     ensures { result ≡ change_of line }
 {
     match line {
@@ -48,7 +53,16 @@ fn change_of(line: JournalLine) -> Change
             module,
             epoch,
             policy,
-        } => Change::Module(Load {
+        } => Change::Module(Update {
+            number: module,
+            epoch,
+            policy,
+        }),
+        JournalLine::RetireOk {
+            module,
+            epoch,
+            policy,
+        } => Change::Retirement(Update {
             number: module,
             epoch,
             policy,
@@ -60,8 +74,13 @@ fn change_of(line: JournalLine) -> Change
         JournalLine::LoadVerify { .. } => Change::Nothing,
         JournalLine::LoadVersions { .. } => Change::Nothing,
         JournalLine::LoadEpochs { .. } => Change::Nothing,
+        JournalLine::LoadRetired { .. } => Change::Nothing,
         JournalLine::RefreshVersions { .. } => Change::Nothing,
         JournalLine::RefreshEpochs => Change::Nothing,
+        JournalLine::RetireNotLive { .. } => Change::Nothing,
+        JournalLine::RetireInUse { .. } => Change::Nothing,
+        JournalLine::RetireVersions { .. } => Change::Nothing,
+        JournalLine::RetireEpochs { .. } => Change::Nothing,
     }
 }
 
@@ -77,9 +96,15 @@ fn is_load(line: JournalLine) -> bool
         JournalLine::LoadVerify { .. } => true,
         JournalLine::LoadVersions { .. } => true,
         JournalLine::LoadEpochs { .. } => true,
+        JournalLine::LoadRetired { .. } => true,
         JournalLine::RefreshOk { .. } => false,
         JournalLine::RefreshVersions { .. } => false,
         JournalLine::RefreshEpochs => false,
+        JournalLine::RetireOk { .. } => false,
+        JournalLine::RetireNotLive { .. } => false,
+        JournalLine::RetireInUse { .. } => false,
+        JournalLine::RetireVersions { .. } => false,
+        JournalLine::RetireEpochs { .. } => false,
     }
 }
 
@@ -105,12 +130,12 @@ fn unjoined(fault: &JoinFault) -> LineFault
 
 impl Reached {
     // With one module more, in a new epoch.
-    fn load(self, plan: &Plan, modules: &[Module], load: Load) -> Result<Reached, LineFault>
+    fn load(self, plan: &Plan, modules: &[Module], load: Update) -> Result<Reached, LineFault>
         requires can { CanStart plan.now modules.now }
         requires reached { IsReached plan.now modules.now self }
         ensures ok { IfOk result (λ new. LineLeads plan.now modules.now (state_of self)
             (LoadOk load.number load.epoch load.policy) (state_of new)) }
-        ensures stands { IfOk result (StandsIn plan.now) }
+        ensures kept { IfOk result (IsKeptIn plan.now) }
         ensures rows { IfOk result (λ new. new.rows ≡ self.rows) }
         ensures fault { IfErr result (IsLineFault plan.now modules.now (state_of self)
             (LoadOk load.number load.epoch load.policy)) }
@@ -130,12 +155,43 @@ impl Reached {
         }
     }
 
+    // With one module retired, in a new epoch.
+    fn retire(
+        self,
+        plan: &Plan,
+        modules: &[Module],
+        retirement: Update,
+    ) -> Result<Reached, LineFault>
+        requires { IsReached plan.now modules.now self }
+        ensures ok { IfOk result (λ new. LineLeads plan.now modules.now (state_of self)
+            (RetireOk retirement.number retirement.epoch retirement.policy) (state_of new)) }
+        ensures kept { IfOk result (IsKeptIn plan.now) }
+        ensures rows { IfOk result (λ new. new.rows ≡ self.rows) }
+        ensures fault { IfErr result (IsLineFault plan.now modules.now (state_of self)
+            (RetireOk retirement.number retirement.epoch retirement.policy)) }
+    {
+        must(self.is_next_epoch(retirement.epoch))?;
+        must(self.is_next_policy(retirement.policy))?;
+        let place = match self.leaving(retirement.number) {
+            Leaving::Unused(place) => place,
+            Leaving::Used(_) => return Err(LineFault::Illegal),
+            Leaving::NotLive => return Err(LineFault::Illegal),
+        };
+        let roster = self.roster.retire(place, retirement.policy)?;
+        Ok(Reached {
+            epoch: retirement.epoch,
+            policy: retirement.policy,
+            roster,
+            rows: self.rows,
+        })
+    }
+
     // In a new epoch.
     fn refresh(self, plan: &Plan, modules: &[Module], epoch: u32) -> Result<Reached, LineFault>
         requires { IsReached plan.now modules.now self }
         ensures ok { IfOk result (λ new. LineLeads plan.now modules.now (state_of self)
             (RefreshOk epoch) (state_of new)) }
-        ensures stands { IfOk result (StandsIn plan.now) }
+        ensures kept { IfOk result (IsKeptIn plan.now) }
         ensures rows { IfOk result (λ new. new.rows ≡ self.rows) }
         ensures fault { IfErr result (IsLineFault plan.now modules.now (state_of self)
             (RefreshOk epoch)) }
@@ -156,7 +212,7 @@ impl Reached {
         requires same { change_of line ≡ Nothing }
         ensures ok { IfOk result (λ new. LineLeads plan.now modules.now (state_of self)
             line (state_of new)) }
-        ensures stands { IfOk result (StandsIn plan.now) }
+        ensures kept { IfOk result (IsKeptIn plan.now) }
         ensures rows { IfOk result (λ new. new.rows ≡ self.rows) }
         ensures fault { IfErr result (IsLineFault plan.now modules.now (state_of self) line) }
     {
@@ -170,12 +226,13 @@ impl Reached {
         requires reached { IsReached plan.now modules.now self }
         ensures ok { IfOk result (λ new. LineLeads plan.now modules.now (state_of self)
             line (state_of new)) }
-        ensures stands { IfOk result (StandsIn plan.now) }
+        ensures kept { IfOk result (IsKeptIn plan.now) }
         ensures rows { IfOk result (λ new. new.rows ≡ self.rows) }
         ensures fault { IfErr result (IsLineFault plan.now modules.now (state_of self) line) }
     {
         match change_of(line) {
             Change::Module(load) => self.load(plan, modules, load),
+            Change::Retirement(retirement) => self.retire(plan, modules, retirement),
             Change::Epoch(epoch) => self.refresh(plan, modules, epoch),
             Change::Nothing => self.stay(plan, modules, line),
         }
@@ -192,7 +249,7 @@ impl Reached {
         requires reached { IsReached plan.now modules.now self }
         ensures ok { IfOk result (λ new. EntryLeads plan.now modules.now (state_of self)
             entry.now (state_of new)) }
-        ensures stands { IfOk result (StandsIn plan.now) }
+        ensures kept { IfOk result (IsKeptIn plan.now) }
         ensures rows { IfOk result (λ new. new.rows ≡ self.rows) }
         ensures fault { IfErr result (IsEntryFault plan.now modules.now (state_of self) entry.now) }
     {

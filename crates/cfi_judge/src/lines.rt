@@ -4,24 +4,24 @@ ghost use Rattle.std.specs.Prelude.{◌≡◌, ◌↔◌, ◌+◌, IfErr, IsTrue
 ghost use Rattle.cfi_judge.specs.Reached.{state_of};
 ghost use Rattle.cfi_judge.specs.inner.Faults.{Refutes};
 ghost use Rattle.cfi_judge.specs.inner.Lines.{IsRefusal};
-ghost use Rattle.cfi_judge.specs.inner.Meets.{IsLined};
+ghost use Rattle.cfi_judge.specs.inner.Meets.{HasLive};
 ghost use Rattle.cfi_judge.specs.inner.Reached.{IsReached};
-ghost use Rattle.cfi_valid.specs.Journal.{HasNextEpoch, IsAgain, IsOutOfEpochs, IsTooOld};
+ghost use Rattle.cfi_valid.specs.Journal.{HasNextEpoch, IsAgain, IsOutOfEpochs, IsTooOld, live_in};
 
 use crate::fault::{LineFault, must};
-use crate::meeting::{Meeting, is_full, is_loaded};
+use crate::meeting::{Meeting, is_full, is_gone, is_live};
 use crate::reached::Reached;
 use cfi_aux::Module;
 use cfi_plan::{JournalLine, Plan};
 use cfi_word::limits::MAX_EPOCH;
 
 impl Reached {
-    // The module is loaded already, under the policy in force.
+    // The module is live already, under the policy in force.
     fn is_again(&self, number: u32, policy: u32) -> bool
-        requires { IsLined self.now.roster }
+        requires { HasLive self.now.roster (live_in (state_of self.now)) }
         ensures { IsTrue result ↔ IsAgain (state_of self.now) number policy }
     {
-        policy == self.policy && is_loaded(&self.roster, number)
+        policy == self.policy && is_live(&self.roster, number)
     }
 
     // An update goes to this epoch.
@@ -56,7 +56,7 @@ impl Reached {
             && u64::from(quiet) + u64::from(plan.versions) < u64::from(self.epoch) + 3
     }
 
-    // What a line tells of a refusal, or of a module that is loaded already, is so. No module is tried again.
+    // What a line tells of a refusal, or of a module that is live already, is so. No module is tried again.
     fn is_refusal(&self, plan: &Plan, modules: &[Module], line: JournalLine) -> bool
         requires { IsReached plan.now modules.now self.now }
         ensures { IsTrue result ↔ IsRefusal plan.now modules.now (state_of self.now) line }
@@ -81,13 +81,23 @@ impl Reached {
             JournalLine::LoadEpochs { module } => {
                 self.is_last_epoch() && self.meets(module, Meeting::Joins)
             }
+            JournalLine::LoadRetired { module } => is_gone(&self.roster, module),
             JournalLine::RefreshOk { .. } => false,
             JournalLine::RefreshVersions { guest, quiet } => self.is_too_old(plan, guest, quiet),
             JournalLine::RefreshEpochs => self.is_last_epoch(),
+            JournalLine::RetireOk { .. } => false,
+            JournalLine::RetireNotLive { module } => !is_live(&self.roster, module),
+            JournalLine::RetireInUse { module, user } => self.is_used_by(module, user),
+            JournalLine::RetireVersions {
+                module,
+                guest,
+                quiet,
+            } => self.is_too_old(plan, guest, quiet) && self.is_unused(module),
+            JournalLine::RetireEpochs { module } => self.is_last_epoch() && self.is_unused(module),
         }
     }
 
-    /// That a line tells of a refusal, or of a module that is loaded already, and is legal.
+    /// That a line tells of a refusal, or of a module that is live already, and is legal.
     pub(crate) fn must_refuse(
         &self,
         plan: &Plan,

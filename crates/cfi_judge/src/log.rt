@@ -2,17 +2,19 @@
 
 ghost use Rattle.std.specs.Prelude.{◌≡◌, ◌↔◌, IsTrue};
 ghost use Rattle.cfi_judge.specs.inner.Log.{HasOpens, HasRisen, HasOpen, IsThere};
-ghost use Rattle.cfi_ledger.specs.Roster.{loaded_in_roster};
+ghost use Rattle.cfi_ledger.specs.Roster.{members_in_roster};
 ghost use Rattle.cfi_model.specs.Log.{policy_after};
 ghost use Rattle.cfi_modules.specs.Entry.{HasAddresses, IsFirstOf, IsGlobal};
-ghost use Rattle.cfi_valid.specs.Loaded.{loaded_by};
+ghost use Rattle.cfi_valid.specs.Loaded.{live_at};
 ghost use Rattle.cfi_valid.specs.Log.{HasFunctionAt};
 
 use cfi_aux::Placed;
+use cfi_labels::is_live;
 use cfi_ledger::Roster;
 use cfi_modules::{first_global, loaded_have_entries};
 use cfi_plan::ModuleLine;
 use cfi_unit::Log;
+use cfi_valid::Retirement;
 
 /// The policy that is logged last, with an entry more.
 pub(crate) fn policy_after(before: u32, entry: &Log) -> u32
@@ -48,26 +50,40 @@ fn begins_at(placed: &Placed, address: u32) -> bool
     first_global(placed) == Some(address)
 }
 
-// The module at a place in load order is that of this number, it came with this policy or before it, and the address is
-// that of its first Global function.
-fn is_open_at(line: &ModuleLine, placed: &Placed, number: u32, address: u32, policy: u32) -> bool
-    requires { HasAddresses placed.now }
-    ensures { IsTrue result ↔ IsThere (λ p. IsFirstOf IsGlobal p address)
-        line.now placed.now number policy }
-{
-    line.number == number && line.policy <= policy && begins_at(placed, address)
+// An open, as an entry of a log tells it.
+#[derive(Clone, Copy)]
+struct Open {
+    // The module's number.
+    number: u32,
+    // The address that was given.
+    address: u32,
+    // The policy of the answer.
+    policy: u32,
 }
 
-// A module of this number is loaded by the policy, and the address is that of its first Global function.
-fn has_function_at(roster: &Roster, number: u32, address: u32, policy: u32) -> bool
+// The module at a place in load order is that of an open, it is live under its policy, and the address is that of its
+// first Global function.
+fn is_open_at(line: &ModuleLine, placed: &Placed, retired: &[Retirement], opened: Open) -> bool
+    requires { HasAddresses placed.now }
+    ensures { IsTrue result ↔ IsThere (λ p. IsFirstOf IsGlobal p opened.address) retired.now
+        line.now placed.now opened.number opened.policy }
+{
+    line.number == opened.number
+        && is_live(line, retired, opened.policy)
+        && begins_at(placed, opened.address)
+}
+
+// A module of this number is live under the policy, and the address is that of its first Global function.
+fn has_function_at(roster: &Roster, opened: Open) -> bool
     ensures { IsTrue result ↔ HasFunctionAt
-        (loaded_by policy (loaded_in_roster roster.now)) number address }
+        (live_at opened.policy (members_in_roster roster.now)) opened.number opened.address }
 {
     loaded_have_entries();
     let lines = roster.lines();
     let modules = roster.modules();
+    let retired = roster.retired();
     for at in 0..lines.len() {
-        if is_open_at(&lines[at], &modules[at], number, address, policy) {
+        if is_open_at(&lines[at], &modules[at], retired, opened) {
             return true;
         }
     }
@@ -76,7 +92,7 @@ fn has_function_at(roster: &Roster, number: u32, address: u32, policy: u32) -> b
 
 // What an entry says is open is so.
 fn is_opened(roster: &Roster, entry: &Log) -> bool
-    ensures { IsTrue result ↔ HasOpen (loaded_in_roster roster.now) entry.now }
+    ensures { IsTrue result ↔ HasOpen (members_in_roster roster.now) entry.now }
 {
     match entry {
         Log::Pick { .. } => true,
@@ -84,14 +100,21 @@ fn is_opened(roster: &Roster, entry: &Log) -> bool
             module,
             address,
             policy,
-        } => has_function_at(roster, *module, *address, *policy),
+        } => has_function_at(
+            roster,
+            Open {
+                number: *module,
+                address: *address,
+                policy: *policy,
+            },
+        ),
         Log::Cause { .. } => true,
     }
 }
 
-/// Whether each module that a log says was opened is loaded by the policy of its entry, where the log says.
+/// Whether each module that a log says was opened is live under the policy of its entry, where the log says.
 pub(crate) fn log_opens(roster: &Roster, log: &[Log]) -> bool
-    ensures { IsTrue result ↔ HasOpens (loaded_in_roster roster.now) log.now }
+    ensures { IsTrue result ↔ HasOpens (members_in_roster roster.now) log.now }
 {
     for entry in log {
         if !is_opened(roster, entry) {

@@ -1,24 +1,27 @@
-//! What a module of the plan meets behind those that are loaded.
+//! What a module of the plan meets behind those that are loaded, beside those of them that are live.
 
-ghost use Rattle.std.specs.Prelude.{◌≡◌, ◌↔◌, ◌<◌, All, IfOk, IsTrue, length};
-ghost use Rattle.cfi_judge.specs.inner.Meets.{IsLined, Meets};
+ghost use Rattle.std.specs.Prelude.{◌≡◌, ◌↔◌, ◌<◌, List, All, IfOk, IsTrue, length};
+ghost use Rattle.cfi_judge.specs.inner.Meets.{HasLive, IsLined, Meets};
 ghost use Rattle.cfi_judge.specs.inner.Rows.{IsMeeting, kind_of, meeting_of};
 ghost use Rattle.cfi_ledger.specs.Roster.{loaded_in_roster};
 ghost use Rattle.cfi_modules.specs.Series.{CanBeTaken};
 ghost use Rattle.cfi_valid.specs.Joining.{IsFull, IsUnloaded};
-ghost use Rattle.cfi_valid.specs.Loaded.{IsLoaded};
+ghost use Rattle.cfi_valid.specs.Loaded.{IsLoaded, LoadedModule};
+ghost use Rattle.cfi_valid.specs.Retiring.{HasGone};
 
 use cfi_aux::Module;
 use cfi_ledger::{Prospect, Roster};
 use cfi_modules::FaultNumbers;
 use std::alloc::AllocError;
 
-/// What a module of the plan meets behind those that are loaded.
+/// What a module of the plan meets behind those that are loaded, beside those of them that are live.
 #[derive(Clone, Copy, Debug, PartialEq, Eq)]
 pub(crate) enum Meeting {
-    /// It is one of them.
+    /// It is live.
     Again,
-    /// It is none, and no further one may be loaded.
+    /// It is loaded, and was retired.
+    Gone,
+    /// It is not loaded, and no further one may be.
     Full,
     /// There is room, and it is not placed, for the fault of this number.
     Unplaced(u32),
@@ -32,6 +35,7 @@ pub(crate) enum Meeting {
 #[derive(Clone, Copy, Debug, PartialEq, Eq)]
 pub(crate) enum Kind {
     Again,
+    Gone,
     Full,
     Unplaced,
     Unverified,
@@ -44,6 +48,7 @@ pub(crate) fn kind_of(meeting: Meeting) -> Kind
 {
     match meeting {
         Meeting::Again => Kind::Again,
+        Meeting::Gone => Kind::Gone,
         Meeting::Full => Kind::Full,
         Meeting::Unplaced(_) => Kind::Unplaced,
         Meeting::Unverified { .. } => Kind::Unverified,
@@ -51,14 +56,29 @@ pub(crate) fn kind_of(meeting: Meeting) -> Kind
     }
 }
 
-/// Whether the module of the number is loaded.
-pub(crate) fn is_loaded(roster: &Roster, number: u32) -> bool
-    requires { IsLined roster.now }
-    ensures { IsTrue result ↔ IsLoaded (loaded_in_roster roster.now) number }
+/// Whether the module of the number is live.
+pub(crate) fn is_live(roster: &Roster, number: u32) -> bool
+    ensures { (live : List LoadedModule) → HasLive roster.now live →
+        IsTrue result ↔ IsLoaded live number }
 {
-    match roster.find(number) {
-        Some(_) => true,
-        None => false,
+    match roster.prospect(number) {
+        Prospect::Again(_) => true,
+        Prospect::Retired(_) => false,
+        Prospect::Full => false,
+        Prospect::Open => false,
+    }
+}
+
+/// Whether it is loaded, and was retired.
+pub(crate) fn is_gone(roster: &Roster, number: u32) -> bool
+    ensures { (live : List LoadedModule) → HasLive roster.now live →
+        IsTrue result ↔ HasGone (loaded_in_roster roster.now) live number }
+{
+    match roster.prospect(number) {
+        Prospect::Again(_) => false,
+        Prospect::Retired(_) => true,
+        Prospect::Full => false,
+        Prospect::Open => false,
     }
 }
 
@@ -72,6 +92,7 @@ pub(crate) fn is_full(roster: &Roster, modules: &[Module], number: u32) -> bool
     }
     match roster.prospect(number) {
         Prospect::Again(_) => false,
+        Prospect::Retired(_) => false,
         Prospect::Full => true,
         Prospect::Open => false,
     }
@@ -87,12 +108,13 @@ pub(crate) fn is_unloaded(roster: &Roster, modules: &[Module], number: u32) -> b
     }
     match roster.prospect(number) {
         Prospect::Again(_) => false,
+        Prospect::Retired(_) => false,
         Prospect::Full => false,
         Prospect::Open => true,
     }
 }
 
-// What a module meets: the numbers of its fault behind the others, none where it joins them.
+// What a module meets: the numbers of its fault, none where it joins the others.
 fn meets(roster: &mut Roster, unplaced: &Module) -> Result<Option<FaultNumbers>, AllocError>
     requires { CanBeTaken unplaced.now }
     ensures ok { IfOk result (Meets roster.old unplaced.now) }
@@ -124,15 +146,16 @@ pub(crate) fn met(
     modules: &[Module],
     number: u32,
 ) -> Result<Meeting, AllocError>
-    requires lined { IsLined roster.old }
     requires taken { All CanBeTaken modules.now }
     requires known { number < length modules.now }
-    ensures ok { IfOk result (IsMeeting roster.old.code_words modules.now
-        (loaded_in_roster roster.old) number) }
+    ensures ok { (live : List LoadedModule) → HasLive roster.old live →
+        IfOk result (IsMeeting roster.old.code_words modules.now
+        (loaded_in_roster roster.old) live number) }
     ensures same { roster.new ≡ roster.old }
 {
     match roster.prospect(number) {
         Prospect::Again(_) => Ok(Meeting::Again),
+        Prospect::Retired(_) => Ok(Meeting::Gone),
         Prospect::Full => Ok(Meeting::Full),
         Prospect::Open => {
             let told = meets(roster, &modules[number as usize])?;

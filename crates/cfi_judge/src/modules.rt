@@ -1,18 +1,20 @@
 //! The modules.
 
-ghost use Rattle.std.specs.Prelude.{◌≡◌, ◌↔◌, List, IfOk, IsTrue, length, map};
-ghost use Rattle.cfi_aux.specs.declared.placed.Placed.{Placed};
+ghost use Rattle.std.specs.Prelude.{◌≡◌, ◌↔◌, ℕ, List, [], IfOk, IsTrue, length};
 ghost use Rattle.cfi_judge.specs.Modules.{HasSomeModules};
+ghost use Rattle.cfi_judge.specs.declared.entries.Change.TheVariants as changes;
+ghost use Rattle.cfi_judge.specs.inner.Followed.{Comes};
 ghost use Rattle.cfi_judge.specs.inner.Next.{IsNext};
-ghost use Rattle.cfi_judge.specs.inner.Told.{Follow, told_origin};
+ghost use Rattle.cfi_judge.specs.inner.Told.{Follow, changes_in};
 ghost use Rattle.cfi_ledger.specs.Plans.{CanStart};
 ghost use Rattle.cfi_ledger.specs.Starts.{AreStarted};
+ghost use Rattle.cfi_valid.specs.Loaded.{LoadedModule};
 
+use crate::entries::{Change, Update, change_of};
 use crate::next::Next;
-use crate::told::{Told, told_in};
 use cfi_aux::Module;
 use cfi_ledger::Roster;
-use cfi_plan::{ModuleLine, Plan};
+use cfi_plan::{Entry, ModuleLine, Plan};
 use cfi_report::Report;
 use std::alloc::{AllocError, Global};
 
@@ -38,37 +40,105 @@ fn are_lines(lines: &[ModuleLine], others: &[ModuleLine]) -> bool
     true
 }
 
-// The modules that are told follow those before the start, each with its line. The first that does not ends it.
+// How far the lines of a report's modules follow those of its journal.
+#[derive(Drop)]
+struct Followed {
+    // Where the next module goes.
+    next: Next,
+    // The place of its line.
+    at: usize,
+}
+
+impl Followed {
+    // With one module more. `None` where it does not stand there, or has no line.
+    fn load(
+        self,
+        plan: &Plan,
+        modules: &[Module],
+        lines: &[ModuleLine],
+        load: Update,
+    ) -> Result<Option<Followed>, AllocError>
+        requires can { CanStart plan.now modules.now }
+        requires next { (before : List LoadedModule) × (gone : List ℕ)
+            × IsNext plan.now.code_words (length modules.now) before gone self.next }
+        ensures { (before : List LoadedModule) (gone : List ℕ) →
+            IsNext plan.now.code_words (length modules.now) before gone self.next →
+            IfOk result (Comes plan.now modules.now before gone
+            (changes.Module load) lines.now self) }
+    {
+        if self.at >= lines.len() {
+            return Ok(None);
+        }
+        let taken = self.next.take(plan, modules, &lines[self.at], load)?;
+        match taken {
+            Some(next) => Ok(Some(Followed {
+                next,
+                at: self.at + 1,
+            })),
+            None => Ok(None),
+        }
+    }
+
+    // With what a line changes. `None` where a module does not stand there, or has no line.
+    fn go(
+        self,
+        plan: &Plan,
+        modules: &[Module],
+        lines: &[ModuleLine],
+        change: Change,
+    ) -> Result<Option<Followed>, AllocError>
+        requires can { CanStart plan.now modules.now }
+        requires next { (before : List LoadedModule) × (gone : List ℕ)
+            × IsNext plan.now.code_words (length modules.now) before gone self.next }
+        ensures { (before : List LoadedModule) (gone : List ℕ) →
+            IsNext plan.now.code_words (length modules.now) before gone self.next →
+            IfOk result (Comes plan.now modules.now before gone change lines.now self) }
+    {
+        match change {
+            Change::Module(load) => self.load(plan, modules, lines, load),
+            Change::Retirement(retirement) => Ok(Some(Followed {
+                next: self.next.leave(retirement.number)?,
+                at: self.at,
+            })),
+            Change::Epoch(_) => Ok(Some(self)),
+            Change::Nothing => Ok(Some(self)),
+        }
+    }
+}
+
+// The modules that the journal tells of follow those before the start, each with its line. The first that does not ends
+// it.
 fn follow(
     plan: &Plan,
     modules: &[Module],
     start: Next,
     lines: &[ModuleLine],
-    told: &[Told],
+    journal: &[Entry],
 ) -> Result<bool, AllocError>
     requires can { CanStart plan.now modules.now }
-    requires next { (before : List Placed) × IsNext plan.now.code_words before start }
-    requires same { length lines.now ≡ length told.now }
-    ensures { (before : List Placed) → IsNext plan.now.code_words before start →
+    requires next { (before : List LoadedModule)
+        × IsNext plan.now.code_words (length modules.now) before [] start }
+    ensures { (before : List LoadedModule) →
+        IsNext plan.now.code_words (length modules.now) before [] start →
         IfOk result (λ is. IsTrue is
-        ↔ Follow plan.now modules.now before lines.now (map told_origin told.now)) }
+        ↔ Follow plan.now modules.now before [] (changes_in journal.now) lines.now) }
 {
-    let mut next = start;
-    for number in 0..told.len() {
-        next = match next.take(plan, modules, &lines[number], told[number])? {
-            Some(next) => next,
+    let mut followed = Followed { next: start, at: 0 };
+    for entry in journal {
+        followed = match followed.go(plan, modules, lines, change_of(entry.what))? {
+            Some(followed) => followed,
             None => return Ok(false),
         };
     }
-    Ok(true)
+    Ok(followed.at >= lines.len())
 }
 
-/// Whether a report has the modules that its plan and its journal tell of, each at the next free place; whether the
-/// lines of the journal are legal is not asked.
+/// Whether a report has the modules that its plan and its journal tell of, each at the next free place, with the names
+/// of those that the lines before do not say were retired; whether the lines of the journal are legal is not asked.
 ///
-/// `starts` has the start modules of the plan, and `modules` are those of the plan, one a line. Nothing is placed where
-/// the report has another number of lines, and nothing behind a module that its line does not fit; those behind the
-/// start modules are not verified.
+/// `starts` has the start modules of the plan, and `modules` are those of the plan, one a line. Nothing is placed
+/// behind a module that its line does not fit; those behind the start modules are not verified. The names are
+/// gathered anew for each module of the plan that is retired, once.
 pub fn has_modules(
     alloc: Global,
     plan: &Plan,
@@ -80,15 +150,20 @@ pub fn has_modules(
     requires started { AreStarted plan.now modules.now (length plan.now.modules) starts.now }
     ensures { IfOk result (λ is. IsTrue is ↔ HasSomeModules plan.now modules.now report.now) }
 {
-    let told = told_in(alloc, report.journal.as_slice())?;
     let lines = report.modules.as_slice();
     let count = starts.lines().len();
-    if lines.len() != count + told.len() {
+    if lines.len() < count {
         return Ok(false);
     }
     if !are_lines(&lines[..count], starts.lines()) {
         return Ok(false);
     }
-    let next = Next::behind(alloc, plan.code_words, starts.modules())?;
-    follow(plan, modules, next, &lines[count..], &told)
+    let next = Next::behind(alloc, plan.code_words, modules.len(), starts)?;
+    follow(
+        plan,
+        modules,
+        next,
+        &lines[count..],
+        report.journal.as_slice(),
+    )
 }

@@ -1,11 +1,13 @@
-//! What the modules of the plan meet behind those that each policy finds loaded.
+//! What the modules of the plan meet behind those that each policy finds loaded, beside those that are live under it.
 
-ghost use Rattle.std.specs.Prelude.{◌≡◌, ◌↔◌, ◌≤◌, All, IfOk, IsTrue, Some, length, slice_get};
+ghost use Rattle.std.specs.Prelude.{◌≡◌, ◌↔◌, ◌≤◌, List, All, IfOk, IsTrue, Some, length, slice_get};
 ghost use Rattle.cfi_judge.specs.Reached.{state_of};
-ghost use Rattle.cfi_judge.specs.inner.Meets.{IsLined};
+ghost use Rattle.cfi_judge.specs.inner.Meets.{HasLive};
 ghost use Rattle.cfi_judge.specs.inner.Rows.{AreRows, IsRow, LackLast, Shows};
 ghost use Rattle.cfi_ledger.specs.Roster.{loaded_in_roster};
 ghost use Rattle.cfi_modules.specs.Series.{CanBeTaken};
+ghost use Rattle.cfi_valid.specs.Journal.{live_in};
+ghost use Rattle.cfi_valid.specs.Loaded.{LoadedModule};
 ghost use Rattle.cfi_word.specs.declared.limits.TheConstants.{MAX_MODULES};
 
 use crate::meeting::{Kind, Meeting, kind_of, met};
@@ -38,11 +40,10 @@ fn row_of(
     roster: &mut Roster,
     modules: &[Module],
 ) -> Result<Items<Meeting>, AllocError>
-    requires lined { IsLined roster.old }
     requires taken { All CanBeTaken modules.now }
     requires few { length modules.now ≤ MAX_MODULES }
-    ensures ok { IfOk result (IsRow roster.old.code_words modules.now
-        (loaded_in_roster roster.old)) }
+    ensures ok { (live : List LoadedModule) → HasLive roster.old live →
+        IfOk result (IsRow roster.old.code_words modules.now (loaded_in_roster roster.old) live) }
     ensures same { roster.new ≡ roster.old }
 {
     let mut row = Vec::with_capacity(alloc, modules.len())?;
@@ -59,10 +60,11 @@ impl Reached {
         alloc: Global,
         modules: &[Module],
     ) -> Result<Reached, AllocError>
-        requires lined { IsLined self.roster }
+        requires live { HasLive self.roster (live_in (state_of self)) }
         requires taken { All CanBeTaken modules.now }
         requires few { length modules.now ≤ MAX_MODULES }
-        requires near { LackLast self.roster.code_words modules.now (state_of self) self.rows.items }
+        requires near { LackLast self.roster.code_words modules.now (state_of self)
+            self.rows.items }
         ensures ok { IfOk result (λ new. AreRows self.roster.code_words modules.now
             (state_of self) new.rows.items) }
         ensures same { IfOk result (λ new. new ≡ record self { rows = new.rows }) }

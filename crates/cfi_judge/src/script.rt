@@ -22,9 +22,32 @@ fn call_of(line: JournalLine) -> Due
         JournalLine::LoadVerify { module, .. } => Due::Load(module),
         JournalLine::LoadVersions { module, .. } => Due::Load(module),
         JournalLine::LoadEpochs { module } => Due::Load(module),
+        JournalLine::LoadRetired { module } => Due::Load(module),
         JournalLine::RefreshOk { .. } => Due::Refresh,
         JournalLine::RefreshVersions { .. } => Due::Refresh,
         JournalLine::RefreshEpochs => Due::Refresh,
+        JournalLine::RetireOk { module, .. } => Due::Retire(module),
+        JournalLine::RetireNotLive { module } => Due::Retire(module),
+        JournalLine::RetireInUse { module, .. } => Due::Retire(module),
+        JournalLine::RetireVersions { module, .. } => Due::Retire(module),
+        JournalLine::RetireEpochs { module } => Due::Retire(module),
+    }
+}
+
+// The calls are the same.
+fn is_call(one: Due, other: Due) -> bool
+    ensures { IsTrue result ↔ (one ≡ other) }
+{
+    match (one, other) {
+        (Due::Load(number), Due::Load(other)) => number == other,
+        (Due::Load(_), Due::Refresh) => false,
+        (Due::Load(_), Due::Retire(_)) => false,
+        (Due::Refresh, Due::Refresh) => true,
+        (Due::Refresh, Due::Load(_)) => false,
+        (Due::Refresh, Due::Retire(_)) => false,
+        (Due::Retire(number), Due::Retire(other)) => number == other,
+        (Due::Retire(_), Due::Load(_)) => false,
+        (Due::Retire(_), Due::Refresh) => false,
     }
 }
 
@@ -32,10 +55,9 @@ fn call_of(line: JournalLine) -> Due
 fn is_due(due: Option<Due>, call: Due) -> bool
     ensures { IsTrue result ↔ (due ≡ Some call) }
 {
-    match (due, call) {
-        (Some(Due::Load(one)), Due::Load(other)) => one == other,
-        (Some(Due::Refresh), Due::Refresh) => true,
-        _ => false,
+    match due {
+        Some(one) => is_call(one, call),
+        None => false,
     }
 }
 

@@ -2,21 +2,22 @@
 
 ghost use Rattle.std.specs.Prelude.{◌≡◌, ◌↔◌, ◌≤◌, ℕ, List, IsTrue, length};
 ghost use Rattle.cfi_judge.specs.Reached.{state_of};
-ghost use Rattle.cfi_judge.specs.inner.Log.{IsThere, LacksBy};
+ghost use Rattle.cfi_judge.specs.inner.Log.{IsBareIn, LacksBy, first_by};
 ghost use Rattle.cfi_judge.specs.inner.Span.{IsAhead, IsSpan};
-ghost use Rattle.cfi_ledger.specs.Roster.{loaded_in_roster};
+ghost use Rattle.cfi_ledger.specs.Roster.{members_in_roster};
 ghost use Rattle.cfi_modules.specs.Entry.{HasAddresses, HasNoneOf, IsGlobal};
 ghost use Rattle.cfi_unit.specs.declared.log.Log.{Log as AnyLog};
 ghost use Rattle.cfi_valid.specs.Course.{Course};
-ghost use Rattle.cfi_valid.specs.Loaded.{loaded_by};
 ghost use Rattle.cfi_valid.specs.Log.{HasNoFunction, HoldsInSpan};
 
 use crate::reached::Reached;
 use cfi_aux::Placed;
+use cfi_labels::is_live;
 use cfi_ledger::Roster;
 use cfi_modules::{first_global, loaded_have_entries};
 use cfi_plan::ModuleLine;
 use cfi_unit::Log;
+use cfi_valid::Retirement;
 
 /// The policies under which an entry of a log can have come.
 #[derive(Clone, Copy)]
@@ -81,42 +82,57 @@ fn has_none(placed: &Placed) -> bool
     }
 }
 
-// The module at a place in load order is that of this number, it came with this policy or before it, and it has none.
-fn is_bare_at(line: &ModuleLine, placed: &Placed, number: u32, policy: u32) -> bool
-    requires { HasAddresses placed.now }
-    ensures { IsTrue result ↔ IsThere (HasNoneOf IsGlobal) line.now placed.now number policy }
+// The first policy from one on that finds the module of a line loaded.
+fn first_by(least: u32, line: &ModuleLine) -> u32
+    ensures { result ≡ first_by least line.now }
 {
-    line.number == number && line.policy <= policy && has_none(placed)
+    if least < line.policy {
+        line.policy
+    } else {
+        least
+    }
 }
 
-// A module of this number is loaded by the policy, and has none.
-fn has_no_function(roster: &Roster, number: u32, policy: u32) -> bool
-    ensures { IsTrue result ↔ HasNoFunction
-        (loaded_by policy (loaded_in_roster roster.now)) number }
+// The module at a place in load order is that of this number, it has none, and some policy of the span finds it live.
+fn is_bare_at(
+    line: &ModuleLine,
+    placed: &Placed,
+    retired: &[Retirement],
+    number: u32,
+    span: Span,
+) -> bool
+    requires { HasAddresses placed.now }
+    ensures { IsTrue result ↔ IsBareIn span.least span.most retired.now line.now placed.now number }
+{
+    let policy = first_by(span.least, line);
+    policy <= span.most
+        && line.number == number
+        && is_live(line, retired, policy)
+        && has_none(placed)
+}
+
+// Some policy of a span finds such a module live.
+fn lacks_by(roster: &Roster, number: u32, span: Span) -> bool
+    ensures { IsTrue result
+        ↔ LacksBy span.least span.most (members_in_roster roster.now) number }
 {
     loaded_have_entries();
     let lines = roster.lines();
     let modules = roster.modules();
+    let retired = roster.retired();
     for at in 0..lines.len() {
-        if is_bare_at(&lines[at], &modules[at], number, policy) {
+        if is_bare_at(&lines[at], &modules[at], retired, number, span) {
             return true;
         }
     }
     false
 }
 
-// By the last policy of a span there is such a module, and the span has a policy.
-fn lacks_by(roster: &Roster, number: u32, span: Span) -> bool
-    ensures { IsTrue result ↔ LacksBy span.least span.most (loaded_in_roster roster.now) number }
-{
-    span.least <= span.most && has_no_function(roster, number, span.most)
-}
-
-/// Whether some policy of the span of an entry finds a module of this number loaded that has no Global function.
+/// Whether some policy of the span of an entry finds a module of this number live that has no Global function.
 pub(crate) fn lacks_function(end: &Reached, span: Span, number: u32) -> bool
     ensures { (c : Course) (log : List AnyLog) (at : ℕ) → c.end ≡ state_of end.now →
         IsSpan end.now.policy log at span → IsTrue result ↔
-        HoldsInSpan c log at (λ loaded. HasNoFunction loaded number) }
+        HoldsInSpan c log at (λ loaded live. HasNoFunction live number) }
 {
     lacks_by(&end.roster, number, span)
 }

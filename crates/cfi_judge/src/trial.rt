@@ -23,7 +23,7 @@ use cfi_aux::Module;
 use cfi_plan::Plan;
 use cfi_report::{GuestPart, Report};
 use cfi_unit::Log;
-use cfi_valid::{EPOCHS_SPENT, MODULES_FULL, NOT_PLACED, NOT_VERIFIED, VERSIONS_SPENT};
+use cfi_valid::{EPOCHS_SPENT, MODULES_FULL, NOT_PLACED, NOT_VERIFIED, RETIRED, VERSIONS_SPENT};
 use cfi_word::services::{NO_FUNCTION, NO_MODULE};
 
 /// Against what the guests of a report are judged.
@@ -58,6 +58,7 @@ enum Why {
     VersionsSpent,
     EpochsSpent,
     NoFunction,
+    Retired,
     Unlogged,
 }
 
@@ -73,18 +74,19 @@ fn why_of(cause: u32) -> Why
         VERSIONS_SPENT => Why::VersionsSpent,
         EPOCHS_SPENT => Why::EpochsSpent,
         NO_FUNCTION => Why::NoFunction,
+        RETIRED => Why::Retired,
         _ => Why::Unlogged,
     }
 }
 
 impl Trial<'_> {
-    // Behind the modules of some policy of the span of an entry a module meets this.
+    // Behind the modules of some policy of the span of an entry, beside the live ones, a module meets this.
     fn meets_in(&self, span: Span, number: u32, kind: Kind) -> bool
         requires { IsTrial self.now }
         ensures { (log : List AnyLog) (at : ℕ) → HasRisen self.now.end.now.policy log →
             IsSpan self.now.end.now.policy log at span → IsTrue result ↔
-            HoldsInSpan (course_in self.now) log at (λ loaded.
-            IsOfKind self.now.plan.now.code_words self.now.modules.now loaded number kind) }
+            HoldsInSpan (course_in self.now) log at (λ loaded live.
+            IsOfKind self.now.plan.now.code_words self.now.modules.now loaded live number kind) }
     {
         self.end.has_met(span.least, span.most, number, kind)
     }
@@ -125,6 +127,7 @@ impl Trial<'_> {
             }
             Why::EpochsSpent => self.is_spent(span, number),
             Why::NoFunction => lacks_function(self.end, span, number),
+            Why::Retired => self.meets_in(span, number, Kind::Gone),
             Why::Unlogged => false,
         }
     }
@@ -208,9 +211,13 @@ impl Trial<'_> {
         requires { IsTrial self.now }
         ensures { IsTrue result ↔ IsLogged (course_in self.now) of.now.guest of.now.log.now }
     {
-        log_rises(self.end.policy, of.log)
-            && log_opens(&self.end.roster, of.log)
-            && self.has_causes(of)
+        if !log_rises(self.end.policy, of.log) {
+            return false;
+        }
+        if !log_opens(&self.end.roster, of.log) {
+            return false;
+        }
+        self.has_causes(of)
     }
 
     // The log of the part of a number does.

@@ -1,6 +1,4 @@
-pub mod BookLemmas
 pub mod ClassLemmas
 pub mod LoadedLemmas
+pub mod LiveLemmas
 pub mod SetLemmas
-pub mod LabelLemmas
-pub mod CellLemmas

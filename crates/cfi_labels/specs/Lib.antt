@@ -1,3 +1,3 @@
 pub mod Cells
 pub mod Labels
-pub mod inner
+pub mod Live

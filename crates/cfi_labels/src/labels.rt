@@ -1,77 +1,51 @@
 //! The labels of each policy.
 
-ghost use Rattle.std.specs.Prelude.{◌≡◌, ◌+◌, ◌<◌, ◌++◌, ◌∷◌, [], IfOk, OnOk, length};
-ghost use Rattle.cfi_labels.specs.Labels.{AreLabelsOf, ComeInOrder};
-ghost use Rattle.cfi_labels.specs.inner.Books.{IsBookOfFirst};
-ghost use Rattle.cfi_ledger.specs.Roster.{loaded_in_roster};
-ghost use Rattle.cfi_policy.specs.Book.{labels_of};
+ghost use Rattle.std.specs.Prelude.{◌≡◌, IfOk};
+ghost use Rattle.cfi_labels.specs.Labels.{AreLabelsAt, AreLabelsOf};
+ghost use Rattle.cfi_ledger.specs.Roster.{members_in_roster};
 
-use crate::first::{book_with_next, first_book, first_have_image};
-use crate::start::modules_at_start;
+use crate::live::live_modules;
 use cfi_ledger::Roster;
-use cfi_policy::Book;
-use cfi_values::Numbers;
-use cfi_word::{Labels, Layout};
+use cfi_policy::image_of;
+use cfi_word::{Image, Labels, Layout};
 use std::alloc::{AllocError, Global};
 
-// Adds the labels of a book.
-fn add_labels(alloc: Global, sets: &mut Vec<Labels>, book: &Book) -> Result<(), AllocError>
-    ensures { OnOk result
-        (sets.new.items ≡ sets.old.items ++ labels_of book.now.image ∷ []) }
-{
-    let image = book.image();
-    let tary = Vec::from_slice(alloc, image.tary.as_slice())?;
-    let bary = Vec::from_slice(alloc, image.bary.as_slice())?;
-    sets.push(Labels {
-        tary: Numbers::from_vec(tary),
-        bary: Numbers::from_vec(bary),
-    })?;
-    Ok(())
-}
-
-// The book has the next module, and its labels are added.
-fn add_next(
+// The labels of a policy: those of the image of the modules that are live under it.
+fn labels_at(
     alloc: Global,
     roster: &Roster,
-    count: usize,
-    book: &mut Book,
-    sets: &mut Vec<Labels>,
-) -> Result<(), AllocError>
-    requires within { count < length roster.now.placed }
-    requires book { IsBookOfFirst roster.now count book.old }
-    ensures book { OnOk result (IsBookOfFirst roster.now (count + 1) book.new) }
-    ensures labels { OnOk result
-        (sets.new.items ≡ sets.old.items ++ labels_of book.new.image ∷ []) }
+    layout: &Layout,
+    policy: u32,
+) -> Result<Labels, AllocError>
+    requires { layout.now ≡ roster.now.code_words }
+    ensures { IfOk result (AreLabelsAt (members_in_roster roster.now) policy) }
 {
-    *book = book_with_next(alloc, roster, count, book)?;
-    add_labels(alloc, sets, book)?;
-    Ok(())
+    let live = live_modules(alloc, roster, policy)?;
+    let Image {
+        tary,
+        bary,
+        code: _,
+    } = image_of(alloc, &live, layout)?;
+    Ok(Labels { tary, bary })
 }
 
 /// The labels of each policy up to the last, in order: by the number of a policy, from 0.
 ///
-/// The modules of the roster came one with each policy, behind those of the start, and the layout is theirs. Each
-/// policy's image is made behind the one before, so what both have is not worked out anew, and no more than two stand
-/// at once. A set takes at most 281 kilobytes.
+/// The layout is that of the roster. Each policy's image is made anew, of the modules that are live under it, and no
+/// more than one stands at once. A set takes at most 281 kilobytes.
 pub fn policy_labels(
     alloc: Global,
     roster: &Roster,
     layout: &Layout,
     last: u32,
 ) -> Result<Vec<Labels>, AllocError>
-    requires layout { layout.now ≡ roster.now.code_words }
-    requires order { ComeInOrder (loaded_in_roster roster.now) last }
+    requires { layout.now ≡ roster.now.code_words }
     ensures { IfOk result (λ sets.
-        AreLabelsOf (loaded_in_roster roster.now) last sets.items) }
+        AreLabelsOf (members_in_roster roster.now) last sets.items) }
 {
-    first_have_image();
-    let many = roster.modules().len();
-    let starts = modules_at_start(roster, last).len();
-    let mut book = first_book(alloc, roster, starts, layout)?;
     let mut sets = Vec::new(alloc);
-    add_labels(alloc, &mut sets, &book)?;
-    for count in starts..many {
-        add_next(alloc, roster, count, &mut book, &mut sets)?;
+    for policy in 0..last as usize + 1 {
+        sets.push(labels_at(alloc, roster, layout, policy as u32)?)?;
     }
     Ok(sets)
 }

@@ -1,17 +1,17 @@
 -- A roster whose series has a module more, and a line for it.
-use Rattle.std.proofs.Common.{◌≡◌, ℕ, ◌-◌, List, [], ◌∷◌, ◌++◌, length, map, take, drop, sym, ap, subst, ◌∙◌, arith, length-append}
+use Rattle.std.proofs.Common.{◌≡◌, ℕ, ◌-◌, Bool, true, List, [], ◌∷◌, ◌++◌, length, map, take, drop, sym, ap, subst, ◌∙◌, arith, length-append}
 use Rattle.std.proofs.Math.Seq.{take-length}
 use Rattle.std.proofs.lemmas.List.{map-append, take-append-le}
 use Rattle.cfi_aux.specs.declared.modules.Module.{Module}
 use Rattle.cfi_plan.specs.declared.journal.ModuleLine.{ModuleLine}
 use Rattle.cfi_modules.specs.Image.{IsOrderedImage}
-use Rattle.cfi_modules.specs.Order.{Joins}
 use Rattle.cfi_unit.specs.declared.fill.Fill.{Fill}
-use Rattle.cfi_modules.specs.Series.{Series, with_module, without_last, HasJoined as SeriesHasJoined}
+use Rattle.cfi_modules.specs.Series.{Series, with_module, without_last, JoinsTo, HasJoined as SeriesHasJoined}
 use Rattle.cfi_aux.specs.declared.placed.Placed.{Placed}
 use Rattle.cfi_plan.specs.declared.plan.Plan.{Plan}
 use Rattle.cfi_plan.specs.declared.plan.PlanModule.{PlanModule}
 use Rattle.cfi_valid.specs.Loaded.{LoadedModule, module_line_of, planned_name}
+use Rattle.cfi_valid.specs.declared.retirement.Retirement.{Retirement}
 use Rattle.cfi_valid.proofs.KeptLemmas.{loaded_more}
 use Rattle.cfi_ledger.specs.declared.entrant.Entrant.{Entrant}
 use Rattle.cfi_ledger.specs.Roster.{HasJoined, IsOffer, IsRosterOf, Offer, Roster, line_by, loaded_of, origin_of, with_offer}
@@ -25,23 +25,37 @@ init_of xs x =
     ∙ take-append-le (length xs) xs (x ∷ []) (omega arith)
     ∙ take-length xs
 
--- a roster by what keeps it
-abbrev pub roster_by : List ModuleLine → List Fill → Series → Roster
-roster_by lines fills s = record {
+-- a series that a module has joined is what it was without the last one
+pub series_back : (old new : Series) (m : Module) → SeriesHasJoined old new m → without_last new ≡ old
+series_back old new m joined =
+    let of : List Placed → List Bool → Series =
+    λ ps bs. record { code_words = old.code_words; placed = ps; flags = bs } in
+    ap (λ (s : Series). without_last s) joined.2
+    ∙ ap (λ (ps : List Placed). of ps (take (length (old.flags ++ true ∷ []) - 1) (old.flags ++ true ∷ [])))
+    (init_of old.placed joined.0)
+    ∙ ap (of old.placed) (init_of old.flags true)
+
+-- a roster by its series and what else is kept
+abbrev pub roster_with : List ModuleLine → List Retirement → (cells : List Fill) → Series → Roster
+roster_with lines retired cells s = record {
   code_words = s.code_words;
   lines = lines;
   placed = s.placed;
-  cells = drop (length s.placed) fills;
+  flags = s.flags;
+  retired = retired;
+  cells = cells;
 }
 
+abbrev pub roster_by : List ModuleLine → List Retirement → (fills : List Fill) → Series → Roster
+roster_by lines retired fills s = roster_with lines retired (drop (length s.placed) fills) s
+
 module _ (number policy : ℕ) (name : List ℕ) (m : Module) (s new : Series) (lines : List ModuleLine)
-    (cells : List Fill) where
+    (retired : List Retirement) (cells : List Fill) where
   abbrev before : Roster
-  before = record { code_words = s.code_words; lines = lines; placed = s.placed; cells = cells }
+  before = roster_with lines retired cells s
 
   abbrev after : ModuleLine → (cells : List Fill) → Roster
-  after line next =
-      record { code_words = new.code_words; lines = lines ++ line ∷ []; placed = new.placed; cells = next }
+  after line next = roster_with (lines ++ line ∷ []) retired next new
 
   pub roster_joined : (old : Roster) → before ≡ old → (joined : SeriesHasJoined s new m) → (line : ModuleLine)
       → line ≡ line_by number name policy joined.0 → (next : List Fill)
@@ -50,23 +64,12 @@ module _ (number policy : ℕ) (name : List ℕ) (m : Module) (s new : Series) (
       subst (λ (o : Roster). HasJoined number name policy m o (after line next)) same (record {
         one = joined.0;
         joins = joined.1;
-        is = ap (λ (n : Series). record {
-          code_words = n.code_words;
-          lines = lines ++ line ∷ [];
-          placed = n.placed;
-          cells = next;
-        }) joined.2
-            ∙ ap (λ (l : ModuleLine). record {
-              code_words = s.code_words;
-              lines = lines ++ l ∷ [];
-              placed = s.placed ++ joined.0 ∷ [];
-              cells = next;
-            }) line_is;
+        is = ap (roster_with (lines ++ line ∷ []) retired next) joined.2
+            ∙ ap (λ (l : ModuleLine). roster_with (lines ++ l ∷ []) retired next (with_module s joined.0)) line_is;
       })
 
   abbrev back : List ModuleLine → (cells : List Fill) → Roster
-  back rest kept =
-      record { code_words = new.code_words; lines = rest; placed = (without_last new).placed; cells = kept }
+  back rest kept = roster_with rest retired kept (without_last new)
 
   -- without the module it is what it was
   pub roster_back : (old : Roster) → before ≡ old → SeriesHasJoined s new m → (rest : List ModuleLine) → rest ≡ lines
@@ -74,14 +77,7 @@ module _ (number policy : ℕ) (name : List ℕ) (m : Module) (s new : Series) (
   roster_back old same joined rest rest_is kept kept_is =
       ap (λ (ls : List ModuleLine). back ls kept) rest_is
       ∙ ap (back lines) kept_is
-      ∙ ap (λ (n : Series). record {
-        code_words = n.code_words;
-        lines = lines;
-        placed = (without_last n).placed;
-        cells = cells;
-      }) joined.2
-      ∙ ap (λ (ps : List Placed). record { code_words = s.code_words; lines = lines; placed = ps; cells = cells })
-      (init_of s.placed joined.0)
+      ∙ ap (roster_with lines retired cells) (series_back s new m joined)
       ∙ same
 
   -- what it gives back is offered
@@ -90,7 +86,7 @@ module _ (number policy : ℕ) (name : List ℕ) (m : Module) (s new : Series) (
     pub roster_offered : offer.line ≡ line_by number name policy offer.placed → IsOffer number name policy m old offer
     roster_offered line_is =
         subst (λ (o : Roster). IsOffer number name policy m o offer) same (record {
-          joins = subst (λ (p : Placed). Joins s.code_words s.placed m p) (sym placed_is) joined.1;
+          joins = subst (JoinsTo s m) (sym placed_is) joined.1;
           line_is = line_is;
         })
 
@@ -125,7 +121,7 @@ module _ (number : ℕ) (name : List ℕ) (policy : ℕ) (m : Module) (old new :
   abbrev its_line : ModuleLine
   its_line = line_by number name policy joined.one
 
-  abbrev its_module : LoadedModule
+  abbrev pub its_module : LoadedModule
   its_module = record { number = number; placed = joined.one; policy = policy }
 
   module _ (many : length old.lines ≡ length old.placed) where

@@ -1,6 +1,8 @@
 pub mod CallLemmas
 pub mod EntryLemmas
+pub mod MemberLemmas
 pub mod PolicyLemmas
+pub mod FlagLemmas
 pub mod FindingLemmas
 pub mod RosterLemmas
 mod BookLemmas

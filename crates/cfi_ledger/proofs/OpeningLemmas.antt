@@ -1,5 +1,5 @@
 -- Where guests begin, and what the start modules make of a plan.
-use Rattle.std.proofs.Common.{◌≡◌, ℕ, List, [], length, All, refl, sym, ap, subst, ◌∙◌, arith}
+use Rattle.std.proofs.Common.{◌≡◌, ℕ, Bool, true, List, [], ◌∷◌, length, map, All, refl, sym, ap, subst, ◌∙◌, arith}
 use Rattle.cfi_aux.specs.Sound.{IsSoundModule}
 use Rattle.cfi_aux.specs.declared.modules.Module.{Module}
 use Rattle.cfi_aux.specs.declared.placed.Placed.{Placed}
@@ -7,13 +7,16 @@ use Rattle.cfi_graph.specs.Cell.{cells_of}
 use Rattle.cfi_graph.specs.Direct.{DirectEdge}
 use Rattle.cfi_model.specs.Closed.{IsClosed}
 use Rattle.cfi_plan.specs.declared.plan.Plan.{Plan}
+use Rattle.cfi_policy.specs.Book.{KeptImage}
 use Rattle.cfi_policy.specs.Image.{IsImage}
 use Rattle.cfi_modules.specs.Loaded.{AreLoaded}
 use Rattle.cfi_modules.proofs.GraphLemmas.{are_loaded}
 use Rattle.cfi_modules.proofs.ImageLemmas.{closed}
 use Rattle.cfi_valid.specs.Guests.{EntersIn, GuestBegins}
-use Rattle.cfi_valid.specs.Journal.{IsJournal}
-use Rattle.cfi_valid.specs.Loaded.{LoadedModule, placed_modules, loaded_by}
+use Rattle.cfi_valid.specs.Journal.{IsJournal, live_in}
+use Rattle.cfi_valid.specs.Loaded.{LoadedModule, placed_modules, loaded_by, live_at, live_flags}
+use Rattle.cfi_valid.specs.declared.retirement.Retirement.{Retirement}
+use Rattle.cfi_valid.proofs.LiveLemmas.{live_none, opening_up_to}
 use Rattle.cfi_valid.proofs.SeriesLemmas.{journal_series}
 use Rattle.cfi_word.specs.declared.lists.Image.{Image}
 use Rattle.cfi_ledger.specs.declared.books.Books.{Books}
@@ -22,9 +25,11 @@ use Rattle.cfi_ledger.specs.Entries.{HaveEntries, AllEnter, IsFirstOut}
 use Rattle.cfi_ledger.specs.Opening.{AreOpened, AreOpeningBooks, IsStartRoster}
 use Rattle.cfi_ledger.specs.Plans.{CanStart}
 use Rattle.cfi_valid.specs.Opening.{IsFirstLost}
-use Rattle.cfi_ledger.specs.Roster.{Roster, IsImageOfRoster, loaded_in_roster, origin_of}
+use Rattle.cfi_ledger.specs.Roster.{Roster, IsBookOfRoster, IsImageOfRoster, live_placed, loaded_in_roster, members_in_roster, origin_of, series_of}
 use Rattle.cfi_ledger.specs.Starts.{AreStarted, opened_state}
+use Rattle.cfi_ledger.proofs.BookLemmas.{all_live}
 use Rattle.cfi_ledger.proofs.EntryLemmas.{among_self, loaded_all}
+use Rattle.cfi_ledger.proofs.MemberLemmas.{stays, flags_stay}
 use Rattle.cfi_valid.proofs.KeptLemmas.{places_are}
 use Rattle.cfi_ledger.proofs.PolicyLemmas.{opening_policies}
 use Rattle.cfi_ledger.proofs.StartLemmas.{started_all}
@@ -46,11 +51,11 @@ module _ (plan : Plan) (loaded : List LoadedModule) (ms : List Placed)
 
 -- the start modules, with their cells filled
 pub filled_opened : (plan : Plan) (modules : List Module) (r now : Roster) → IsStartRoster plan modules r
-    → now ≡ record r { cells = cells_of r.placed r.placed } → (b : Books) → AreOpeningBooks plan modules now b
+    → now ≡ record r { cells = cells_of (live_placed r) r.placed } → (b : Books) → AreOpeningBooks plan modules now b
     → AreOpened plan modules b
 filled_opened plan modules r now start is b books =
     let its = start.started in
-    let all : Roster = record r { cells = cells_of r.placed r.placed } in
+    let all : Roster = record r { cells = cells_of (live_placed r) r.placed } in
     record {
       roster = all;
       started = record {
@@ -61,6 +66,8 @@ filled_opened plan modules r now start is b books =
         };
         starts = its.starts;
         policies = its.policies;
+        live = its.live;
+        stay = its.stay;
         order = its.order;
       };
       enter = start.enter;
@@ -78,13 +85,39 @@ module _ (plan : Plan) (modules : List Module) (can : CanStart plan modules) (r 
       ap placed_modules (loaded_all 0 (loaded_in_roster r) (λ at d within. omega (arith, all.policies at d within)))
       ∙ places
 
+  -- all are live
+  pub start_live : placed_modules (live_in (opened_state plan r)) ≡ r.placed
+  start_live =
+      ap (λ (rs : List Retirement).
+      placed_modules (live_at 0 (record { loaded = loaded_in_roster r; retired = rs }))) all.stay
+      ∙ ap placed_modules (live_none 0 (loaded_in_roster r)) ∙ start_places
+
+  pub start_flags : r.flags ≡ live_flags 0 (members_in_roster r)
+  start_flags =
+      all.live ∙ ap (map (λ (m : Placed). true)) (sym places) ∙ each (loaded_in_roster r)
+      ∙ ap (λ (rs : List Retirement). map (stays rs) (loaded_in_roster r)) (sym all.stay)
+      ∙ sym (flags_stay (opened_state plan r)
+      (opening_up_to plan modules (opened_state plan r) (started_all plan modules r all)))
+    where
+      each : (loaded : List LoadedModule)
+          → map (λ (m : Placed). true) (placed_modules loaded) ≡ map (stays []) loaded
+      each [] = refl
+      each (l ∷ loaded) = ap (λ (bs : List Bool). true ∷ bs) (each loaded)
+
+  -- so the book has the image of all
+  pub start_book : (book : KeptImage) → IsBookOfRoster r book → IsImageOfRoster r book.image
+  start_book book of =
+      subst (λ (ms : List Placed). IsImage (DirectEdge ms) r.placed r.code_words book.image)
+      (all_live (series_of r) all.live) of.image
+
   pub first_lost : (guest : ℕ) → IsFirstOut plan r.placed guest → IsFirstLost plan modules guest
   first_lost guest out = record {
     opening = opened_state plan r;
     opens = started_all plan modules r all;
     entry = out.entry;
     is = out.is;
-    lost = λ found. out.lost (found.0, begins_to plan (loaded_in_roster r) r.placed start_places out.entry found.0 found.1);
+    lost = λ found.
+        out.lost (found.0, begins_to plan (loaded_in_roster r) r.placed start_places out.entry found.0 found.1);
     before = λ k other less is.
         let found = out.before k other less is in
         (found.0, begins_from plan (loaded_in_roster r) r.placed start_places other found.0 found.1);

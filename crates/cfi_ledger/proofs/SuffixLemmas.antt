@@ -1,48 +1,47 @@
--- The modules that a policy finds loaded are the first ones, and those that came_between later are the others.
-use Rattle.std.proofs.Common.{◌≡◌, ℕ, zero, suc, ◌+◌, ◌-◌, ◌<◌, ◌≤◌, Bool, true, false, cond, List, [], ◌∷◌, take, drop, Some, refl, sym, ap, ◌∙◌, ⊎_elim, arith}
+-- Where policies rise, the modules that a policy finds loaded are the first ones, and those that came later the others.
+use Rattle.std.proofs.Common.{◌≡◌, ℕ, suc, ◌<◌, ◌≤◌, Bool, true, false, cond, List, [], ◌∷◌, length, take, drop, All, refl, sym, ap, ◌∙◌, ⊎_elim, arith}
 use Rattle.std.specs.Prelude.{nat_le, nat_lt, ◌&&◌, filter}
-use Rattle.std.specs.List.{slice_get}
+use Rattle.std.specs.List.{AllPairs, AllByRecursion}
 use Rattle.std.proofs.lemmas.Bool.{cases_lt, le-leb, lt-leb, le-ltb, lt-ltb}
+use Rattle.std.proofs.lemmas.List.Elements.{All-cons, All-head, All-tail}
 use Rattle.cfi_valid.specs.Loaded.{LoadedModule, loaded_by}
 
--- the policies of the modules from the place `past` on, where so many are of the start
-abbrev pub Rise : (past starts : ℕ) → List LoadedModule → Type 0
-Rise past starts loaded =
-    (at : ℕ) (one : LoadedModule) → slice_get loaded at ≡ Some one → one.policy ≡ at + 1 + past - starts
+-- no module came with a policy below that of one before it
+abbrev pub Rise : List LoadedModule → Type 0
+Rise loaded = AllPairs (λ (a b : LoadedModule). a.policy ≤ b.policy) loaded
 
-rise_later : (past starts : ℕ) (l : LoadedModule) (loaded : List LoadedModule) → Rise past starts (l ∷ loaded)
-    → Rise (past + 1) starts loaded
-rise_later past starts l loaded rise = λ at one is. rise (suc at) one is ∙ omega arith
+rise_first : (l : LoadedModule) (loaded : List LoadedModule) → Rise (l ∷ loaded)
+    → All (λ (x : LoadedModule). l.policy ≤ x.policy) loaded
+rise_first l loaded rise = λ k d within. rise 0 (suc k) d (omega arith) (omega (arith, within))
 
-rise_first : (past starts : ℕ) (l : LoadedModule) (loaded : List LoadedModule) → Rise past starts (l ∷ loaded)
-    → l.policy ≡ 1 + past - starts
-rise_first past starts l loaded rise = rise 0 l refl ∙ omega arith
+rise_later : (l : LoadedModule) (loaded : List LoadedModule) → Rise (l ∷ loaded) → Rise loaded
+rise_later l loaded rise = λ i j d less within. rise (suc i) (suc j) d (omega (arith, less)) (omega (arith, within))
 
-nil_take : (n : ℕ) → ◌≡◌ {A = List LoadedModule} [] (take n [])
-nil_take zero = refl
-nil_take (suc n) = refl
+-- a policy below all of them finds none
+none_loaded : (policy least : ℕ) (loaded : List LoadedModule) → policy < least
+    → All (λ (x : LoadedModule). least ≤ x.policy) loaded → loaded_by policy loaded ≡ []
+none_loaded policy least [] below all = refl
+none_loaded policy least (l ∷ loaded) below all =
+    let first : least ≤ l.policy = All-head (λ (x : LoadedModule). least ≤ x.policy) l loaded all in
+    ap (λ (b : Bool). cond b (l ∷ loaded_by policy loaded) (loaded_by policy loaded))
+    (lt-leb l.policy policy (omega (arith, below, first)))
+    ∙ none_loaded policy least loaded below (All-tail (λ (x : LoadedModule). least ≤ x.policy) l loaded all)
 
-nil_drop : (n : ℕ) → ◌≡◌ {A = List LoadedModule} [] (drop n [])
-nil_drop zero = refl
-nil_drop (suc n) = refl
-
-pub first_loaded : (policy past starts : ℕ) (loaded : List LoadedModule) → Rise past starts loaded
-    → loaded_by policy loaded ≡ take (starts + policy - past) loaded
-first_loaded policy past starts [] rise = nil_take (starts + policy - past)
-first_loaded policy past starts (l ∷ loaded) rise =
-    let here = rise_first past starts l loaded rise in
-    let rest = first_loaded policy (past + 1) starts loaded (rise_later past starts l loaded rise) in
-    ⊎_elim
+pub first_loaded : (policy : ℕ) (loaded : List LoadedModule) → Rise loaded
+    → loaded_by policy loaded ≡ take (length (loaded_by policy loaded)) loaded
+first_loaded policy [] rise = refl
+first_loaded policy (l ∷ loaded) rise = ⊎_elim
     (λ (later : policy < l.policy).
-    let none : starts + policy - past ≡ 0 = omega (arith, later, here) in
-    let less : starts + policy - (past + 1) ≡ 0 = omega (arith, later, here) in
+    let none : loaded_by policy (l ∷ loaded) ≡ [] =
     ap (λ (b : Bool). cond b (l ∷ loaded_by policy loaded) (loaded_by policy loaded)) (lt-leb l.policy policy later)
-    ∙ rest ∙ ap (λ (n : ℕ). take n loaded) less ∙ sym (ap (λ (n : ℕ). take n (l ∷ loaded)) none))
+    ∙ none_loaded policy l.policy loaded later (rise_first l loaded rise) in
+    none ∙ sym (ap (λ (ls : List LoadedModule). take (length ls) (l ∷ loaded)) none))
     (λ (early : l.policy ≤ policy).
-    let more : starts + policy - past ≡ suc (starts + policy - (past + 1)) = omega (arith, early, here) in
-    ap (λ (b : Bool). cond b (l ∷ loaded_by policy loaded) (loaded_by policy loaded)) (le-leb l.policy policy early)
-    ∙ ap (λ (ls : List LoadedModule). l ∷ ls) rest
-    ∙ sym (ap (λ (n : ℕ). take n (l ∷ loaded)) more))
+    let more : loaded_by policy (l ∷ loaded) ≡ l ∷ loaded_by policy loaded =
+    ap (λ (b : Bool). cond b (l ∷ loaded_by policy loaded) (loaded_by policy loaded)) (le-leb l.policy policy early) in
+    more
+    ∙ ap (λ (ls : List LoadedModule). l ∷ ls) (first_loaded policy loaded (rise_later l loaded rise))
+    ∙ sym (ap (λ (ls : List LoadedModule). take (length ls) (l ∷ loaded)) more))
     (cases_lt policy l.policy)
 
 -- a module came above one policy, and with another or before it
@@ -50,31 +49,42 @@ abbrev pub came_between : (above upto : ℕ) → LoadedModule → Bool
 came_between above upto l = nat_lt above l.policy && nat_le l.policy upto
 
 abbrev pub AllUpTo : (upto : ℕ) → List LoadedModule → Type 0
-AllUpTo upto [] = Unit {0}
-AllUpTo upto (l ∷ loaded) = (l.policy ≤ upto) × AllUpTo upto loaded
+AllUpTo upto loaded = AllByRecursion (λ (l : LoadedModule). l.policy ≤ upto) loaded
 
-pub later_loaded : (above upto past starts : ℕ) (loaded : List LoadedModule) → Rise past starts loaded
-    → AllUpTo upto loaded → filter (came_between above upto) loaded ≡ drop (starts + above - past) loaded
-later_loaded above upto past starts [] rise most = nil_drop (starts + above - past)
-later_loaded above upto past starts (l ∷ loaded) rise most =
-    let here = rise_first past starts l loaded rise in
-    let rest = later_loaded above upto (past + 1) starts loaded (rise_later past starts l loaded rise) most.1 in
-    ⊎_elim
-    (λ (later : above < l.policy).
-    let none : starts + above - past ≡ 0 = omega (arith, later, here) in
-    let less : starts + above - (past + 1) ≡ 0 = omega (arith, later, here) in
+-- all that came above a policy that is below each of them
+all_between : (above upto least : ℕ) (loaded : List LoadedModule) → above < least
+    → All (λ (x : LoadedModule). least ≤ x.policy) loaded → AllUpTo upto loaded
+    → filter (came_between above upto) loaded ≡ loaded
+all_between above upto least [] below all most = refl
+all_between above upto least (l ∷ loaded) below all most =
+    let first : least ≤ l.policy = All-head (λ (x : LoadedModule). least ≤ x.policy) l loaded all in
     let in_it : came_between above upto l ≡ true =
-    ap (λ (b : Bool). b && nat_le l.policy upto) (lt-ltb above l.policy later) ∙ le-leb l.policy upto most.0 in
+    ap (λ (b : Bool). b && nat_le l.policy upto) (lt-ltb above l.policy (omega (arith, below, first)))
+    ∙ le-leb l.policy upto most.0 in
     ap (λ (b : Bool). cond b (l ∷ filter (came_between above upto) loaded)
     (filter (came_between above upto) loaded)) in_it
-    ∙ ap (λ (ls : List LoadedModule). l ∷ ls) (rest ∙ ap (λ (n : ℕ). drop n loaded) less)
-    ∙ sym (ap (λ (n : ℕ). drop n (l ∷ loaded)) none))
+    ∙ ap (λ (ls : List LoadedModule). l ∷ ls)
+    (all_between above upto least loaded below (All-tail (λ (x : LoadedModule). least ≤ x.policy) l loaded all) most.1)
+
+pub later_loaded : (above upto : ℕ) (loaded : List LoadedModule) → Rise loaded → AllUpTo upto loaded
+    → filter (came_between above upto) loaded ≡ drop (length (loaded_by above loaded)) loaded
+later_loaded above upto [] rise most = refl
+later_loaded above upto (l ∷ loaded) rise most = ⊎_elim
+    (λ (later : above < l.policy).
+    let none : loaded_by above (l ∷ loaded) ≡ [] =
+    ap (λ (b : Bool). cond b (l ∷ loaded_by above loaded) (loaded_by above loaded)) (lt-leb l.policy above later)
+    ∙ none_loaded above l.policy loaded later (rise_first l loaded rise) in
+    let all : All (λ (x : LoadedModule). l.policy ≤ x.policy) (l ∷ loaded) =
+    All-cons (λ (x : LoadedModule). l.policy ≤ x.policy) l loaded (omega arith) (rise_first l loaded rise) in
+    all_between above upto l.policy (l ∷ loaded) later all most
+    ∙ sym (ap (λ (ls : List LoadedModule). drop (length ls) (l ∷ loaded)) none))
     (λ (early : l.policy ≤ above).
-    let more : starts + above - past ≡ suc (starts + above - (past + 1)) = omega (arith, early, here) in
+    let more : loaded_by above (l ∷ loaded) ≡ l ∷ loaded_by above loaded =
+    ap (λ (b : Bool). cond b (l ∷ loaded_by above loaded) (loaded_by above loaded)) (le-leb l.policy above early) in
     let out : came_between above upto l ≡ false =
     ap (λ (b : Bool). b && nat_le l.policy upto) (le-ltb above l.policy early) in
     ap (λ (b : Bool). cond b (l ∷ filter (came_between above upto) loaded)
     (filter (came_between above upto) loaded)) out
-    ∙ rest
-    ∙ sym (ap (λ (n : ℕ). drop n (l ∷ loaded)) more))
+    ∙ later_loaded above upto loaded (rise_later l loaded rise) most.1
+    ∙ sym (ap (λ (ls : List LoadedModule). drop (length ls) (l ∷ loaded)) more))
     (cases_lt above l.policy)

@@ -5,7 +5,7 @@ use Rattle.cfi_valid.specs.Course.{Course}
 use Rattle.cfi_valid.specs.Journal.{JournalState}
 use Rattle.cfi_valid.specs.Loaded.{LoadedModule}
 use Rattle.cfi_ledger.specs.declared.books.Books.{Books}
-use Rattle.cfi_ledger.specs.Force.{state_of, with_load}
+use Rattle.cfi_ledger.specs.Force.{state_of, with_change}
 use Rattle.cfi_ledger.specs.Journal.{Minutes}
 use Rattle.cfi_ledger.specs.Roster.{Roster, loaded_in_roster}
 
@@ -29,6 +29,6 @@ with_journal journal b = record b { force = record b.force { journal = journal }
 abbrev pub with_roster : Roster → Books → Books
 with_roster roster b = record b { force = record b.force { roster = roster } }
 
--- a load is in force: these modules are loaded, with this image and its links
+-- a load or a retirement is in force: these are the modules, with this image and its links
 abbrev pub committed : Roster → KeptImage → Minutes → Books → Books
-committed roster book journal b = record b { force = with_load roster journal b.force; book = book }
+committed roster book journal b = record b { force = with_change roster journal b.force; book = book }

@@ -1,10 +1,9 @@
 //! The books of a live run: what is known of a module before it is tried, what was found of it, and the load in force.
 
 ghost use Rattle.std.specs.Prelude.{◌≡◌, ◌+◌, ◌<◌, true, if◌then◌else◌, IfOk, IfErr, IfSome, OnOk, OnErr, Some, length, slice_get, slice_index_or, slice_set};
-ghost use Rattle.cfi_plan.specs.declared.journal.JournalLine.TheVariants.{LoadOk};
+ghost use Rattle.cfi_plan.specs.declared.journal.JournalLine.TheVariants.{LoadOk, RetireOk};
 ghost use Rattle.cfi_plan.specs.declared.journal.Who.TheVariants.{Script};
 ghost use Rattle.cfi_aux.specs.declared.placed.Placed.{Placed as PlacedModule};
-ghost use Rattle.cfi_valid.specs.declared.limits.TheConstants.{MAX_LOADED};
 ghost use Rattle.cfi_ledger.specs.Books.{committed, with_journal, with_roster};
 ghost use Rattle.cfi_ledger.specs.Plans.{CanStart};
 ghost use Rattle.cfi_ledger.specs.Journal.{asked_by};
@@ -12,11 +11,12 @@ ghost use Rattle.cfi_ledger.specs.Finding.{AreFindings, DoesJoin};
 ghost use Rattle.cfi_ledger.specs.Journal.{HasLine, HasRoomFor};
 ghost use Rattle.cfi_ledger.specs.Loads.{HasPrepared, IsKnown, IsUnprepared};
 ghost use Rattle.cfi_ledger.specs.Opens.{IsFirstGlobal};
-ghost use Rattle.cfi_ledger.specs.Roster.{IsBookOfRoster, IsFilled};
+ghost use Rattle.cfi_ledger.specs.Roster.{live_placed, HasRetired, IsBookOfRoster, IsFilled};
 ghost use Rattle.cfi_policy.specs.Book.{KeepsNumbers};
-ghost use Rattle.cfi_word.specs.declared.limits.TheConstants.{MAX_EPOCH};
+ghost use Rattle.cfi_word.specs.declared.limits.TheConstants.{MAX_EPOCH, MAX_POLICY};
 
 use crate::candidate::Candidate;
+use crate::departure::Departure;
 use crate::finding::{Finding, Known, Outcome, fault_by, outcome_of};
 use crate::force::Force;
 use crate::roster::Roster;
@@ -27,7 +27,7 @@ use cfi_policy::Book;
 use cfi_values::Items;
 use cfi_word::Layout;
 use cfi_word::limits::MAX_EPOCH;
-use std::alloc::Global;
+use std::alloc::{AllocError, Global};
 use std::mem;
 
 /// The plan and its modules, what is in force, with the journal, and what was found of modules that are not loaded.
@@ -109,13 +109,13 @@ impl Books {
     pub fn prepare(&mut self, number: u32) -> Result<Candidate, JoinFault>
         requires can { CanStart self.old.plan self.old.modules }
         requires known { number < length self.old.plan.modules }
-        requires few { self.old.force.policy < MAX_LOADED }
+        requires few { self.old.force.policy < MAX_POLICY }
         requires book { IsBookOfRoster self.old.force.roster self.old.book }
         ensures ok { IfOk result (λ candidate. HasPrepared self.old number candidate.roster) }
         ensures before { IfOk result (λ candidate. candidate.before ≡ self.old.force.roster) }
         ensures book { IfOk result (λ candidate. IsBookOfRoster candidate.roster candidate.book) }
         ensures kept { IfOk result (λ candidate.
-            KeepsNumbers candidate.roster.placed self.old.book.image candidate.book.image) }
+            KeepsNumbers (live_placed candidate.roster) self.old.book.image candidate.book.image) }
         ensures cells { IfOk result (λ candidate. IsFilled candidate.roster) }
         ensures lent { OnOk result (self.new ≡ with_roster self.new.force.roster self.old) }
         ensures fault { IfErr result (IsUnprepared self.old number) }
@@ -147,16 +147,15 @@ impl Books {
             .joins(&self.modules.as_slice()[number as usize])
     }
 
-    // What was found of a module behind all that are loaded.
+    // What was found of a module under the policy in force.
     fn outcome(&self, number: u32) -> Option<Outcome>
         requires { number < length self.now.found.items }
         ensures { IfSome result (λ outcome. slice_get self.now.found.items number
-            ≡ Some (Some (record { behind = length self.now.force.roster.placed; outcome = outcome }))) }
+            ≡ Some (Some (record { policy = self.now.force.policy; outcome = outcome }))) }
     {
-        let loaded = self.force.roster.lines().len();
         match self.found[number as usize] {
             Some(finding) => {
-                if finding.behind == loaded {
+                if finding.policy == self.force.policy {
                     Some(finding.outcome)
                 } else {
                     None
@@ -171,7 +170,8 @@ impl Books {
     /// The name of a fault takes memory, and want of that is a fault.
     pub fn known(&self, number: u32) -> Known
         requires known { number < length self.now.modules }
-        requires found { AreFindings self.now.modules self.now.force.roster self.now.found.items }
+        requires found { AreFindings self.now.modules self.now.force.policy self.now.force.roster
+            self.now.found.items }
         ensures { IsKnown self.now number result }
     {
         let Some(outcome) = self.outcome(number) else {
@@ -190,22 +190,24 @@ impl Books {
         Known::Nothing
     }
 
-    // Notes what was found of a module behind all that are loaded.
+    // Notes what was found of a module under the policy in force.
     fn note(&mut self, number: u32, outcome: Outcome)
         requires { number < length self.old.found.items }
         ensures found { self.new.found.items ≡ slice_set self.old.found.items number
-            (Some (record { behind = length self.old.force.roster.placed; outcome = outcome })) }
+            (Some (record { policy = self.old.force.policy; outcome = outcome })) }
         ensures same { self.new ≡ record self.old { found = self.new.found } }
     {
-        let behind = self.force.roster.lines().len();
-        self.found[number as usize] = Some(Finding { behind, outcome });
+        let policy = self.force.policy;
+        self.found[number as usize] = Some(Finding { policy, outcome });
     }
 
     /// Keeps why a module does not join. It takes no memory.
     pub fn keep(&mut self, number: u32, fault: &JoinFault)
-        requires found { AreFindings self.old.modules self.old.force.roster self.old.found.items }
+        requires found { AreFindings self.old.modules self.old.force.policy self.old.force.roster
+            self.old.found.items }
         requires unprepared { IsUnprepared self.old number fault.now }
-        ensures found { AreFindings self.old.modules self.old.force.roster self.new.found.items }
+        ensures found { AreFindings self.old.modules self.old.force.policy self.old.force.roster
+            self.new.found.items }
         ensures same { self.new ≡ record self.old { found = self.new.found } }
     {
         let unplaced = &self.modules.as_slice()[number as usize];
@@ -216,9 +218,11 @@ impl Books {
 
     /// Keeps that a module joins. It takes no memory.
     pub fn keep_joining(&mut self, number: u32)
-        requires found { AreFindings self.old.modules self.old.force.roster self.old.found.items }
+        requires found { AreFindings self.old.modules self.old.force.policy self.old.force.roster
+            self.old.found.items }
         requires joins { DoesJoin self.old.modules self.old.force.roster number }
-        ensures found { AreFindings self.old.modules self.old.force.roster self.new.found.items }
+        ensures found { AreFindings self.old.modules self.old.force.policy self.old.force.roster
+            self.new.found.items }
         ensures same { self.new ≡ record self.old { found = self.new.found } }
     {
         self.note(number, Outcome::Joins);
@@ -228,7 +232,7 @@ impl Books {
     pub fn commit(&mut self, candidate: Candidate, who: Who, number: u32)
         requires room { HasRoomFor who self.old.force.journal }
         requires left { self.old.force.epoch < MAX_EPOCH }
-        requires few { self.old.force.policy < MAX_LOADED }
+        requires few { self.old.force.policy < MAX_POLICY }
         ensures line { HasLine
             (asked_by who (LoadOk number (self.old.force.epoch + 1) (self.old.force.policy + 1)))
             self.old.force.journal self.new.force.journal }
@@ -239,5 +243,48 @@ impl Books {
         self.book = book;
         self.force.roster = roster;
         self.force.put_load(who, number);
+    }
+
+    /// Takes all memory of retiring the live module at a place in load order, with the next policy.
+    ///
+    /// The loaded modules are lent to it until it is committed or turned down.
+    pub fn depart(&mut self, place: usize) -> Result<Departure, AllocError>
+        requires within { place < length self.old.force.roster.placed }
+        requires few { self.old.force.policy < MAX_POLICY }
+        requires book { IsBookOfRoster self.old.force.roster self.old.book }
+        ensures ok { IfOk result (λ departure. HasRetired place
+            (self.old.force.policy + 1) self.old.force.roster departure.roster) }
+        ensures before { IfOk result (λ departure. departure.before ≡ self.old.force.roster) }
+        ensures book { IfOk result (λ departure. IsBookOfRoster departure.roster departure.book) }
+        ensures cells { IfOk result (λ departure. IsFilled departure.roster) }
+        ensures lent { OnOk result (self.new ≡ with_roster self.new.force.roster self.old) }
+        ensures same { OnErr result (self.new ≡ self.old) }
+    {
+        let empty = Roster::new(self.alloc, &self.layout);
+        let roster = mem::replace(&mut self.force.roster, empty);
+        match roster.depart(place, self.force.policy + 1, &self.book) {
+            Ok(departure) => Ok(departure),
+            Err(roster) => {
+                self.force.roster = roster;
+                Err(AllocError)
+            }
+        }
+    }
+
+    /// Puts a retirement in force, with its line. It takes no memory.
+    pub fn commit_departure(&mut self, departure: Departure, who: Who, number: u32)
+        requires room { HasRoomFor who self.old.force.journal }
+        requires left { self.old.force.epoch < MAX_EPOCH }
+        requires few { self.old.force.policy < MAX_POLICY }
+        ensures line { HasLine
+            (asked_by who (RetireOk number (self.old.force.epoch + 1) (self.old.force.policy + 1)))
+            self.old.force.journal self.new.force.journal }
+        ensures same { self.new
+            ≡ committed departure.roster departure.book self.new.force.journal self.old }
+    {
+        let (roster, book) = departure.commit();
+        self.book = book;
+        self.force.roster = roster;
+        self.force.put_retirement(who, number);
     }
 }

@@ -7,6 +7,7 @@ use cfi_modules::Prepared;
 use cfi_plan::ModuleLine;
 use cfi_policy::Book;
 use cfi_unit::Fill;
+use cfi_valid::Retirement;
 use cfi_word::Image;
 use std::alloc::Global;
 use std::marker::Model;
@@ -17,6 +18,7 @@ pub struct Candidate {
     pub(crate) prepared: Prepared,
     pub(crate) lines: Vec<ModuleLine>,
     pub(crate) fills: Vec<Fill>,
+    pub(crate) retired: Vec<Retirement>,
     pub(crate) line: ModuleLine,
     pub(crate) fill: Fill,
     pub(crate) cells: Vec<Fill>,
@@ -50,6 +52,7 @@ impl Candidate {
             prepared,
             mut lines,
             mut fills,
+            retired,
             line,
             fill,
             mut cells,
@@ -64,6 +67,7 @@ impl Candidate {
             series: prepared.commit(),
             lines,
             fills,
+            retired,
             alloc,
         };
         (roster, book)
@@ -77,6 +81,7 @@ impl Candidate {
             prepared,
             lines,
             fills,
+            retired,
             line: _,
             fill: _,
             cells: _,
@@ -87,6 +92,7 @@ impl Candidate {
             series: prepared.discard(),
             lines,
             fills,
+            retired,
             alloc,
         }
     }

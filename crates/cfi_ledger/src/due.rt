@@ -7,4 +7,6 @@ pub enum Due {
     Load(u32),
     /// A refresh.
     Refresh,
+    /// The retirement of the module of this number.
+    Retire(u32),
 }

@@ -3,6 +3,7 @@
 ghost use Rattle.std.specs.Prelude.{◌≡◌, ◌+◌, ◌<◌, ◌^◌, IfOk, OnOk, length, vec_len, vec_capacity};
 ghost use Rattle.cfi_graph.specs.Cell.{cells_of};
 ghost use Rattle.cfi_modules.specs.Fills.{fill_of};
+ghost use Rattle.cfi_modules.specs.Series.{live_in};
 ghost use Rattle.cfi_ledger.specs.Roster.{line_by};
 ghost use Rattle.cfi_valid.specs.Loaded.{planned_name};
 
@@ -108,7 +109,7 @@ pub(crate) fn brought(
         ≡ line_by entrant.now.number entrant.now.name.now entrant.now.policy placed.now) }
     ensures fill { IfOk result (λ all. all.1 ≡ fill_of placed.now) }
     ensures cells { IfOk result (λ all.
-        all.2.items ≡ cells_of series.now.placed series.now.placed) }
+        all.2.items ≡ cells_of (live_in series.now) series.now.placed) }
     ensures lines { lines.new.items ≡ lines.old.items }
     ensures fills { fills.new.items ≡ fills.old.items }
     ensures line_fits { OnOk result (vec_len lines.new < vec_capacity lines.new) }

@@ -3,6 +3,7 @@
 ghost use Rattle.std.specs.Prelude.{◌≡◌, ◌++◌, OnOk, OnErr};
 ghost use Rattle.cfi_graph.specs.Cell.{cells_of};
 ghost use Rattle.cfi_modules.specs.Fills.{fills_of};
+ghost use Rattle.cfi_ledger.specs.Roster.{live_placed};
 
 use crate::roster::Roster;
 use cfi_unit::Fill;
@@ -23,11 +24,11 @@ impl Roster {
         &self.fills[..self.lines.len()]
     }
 
-    /// Fills the cells of late imports with what their names mean among the modules, in place of those that were filled
-    /// before. Without memory all stays as it was.
+    /// Fills the cells of late imports with what their names mean among the live modules, in place of those that were
+    /// filled before. Without memory all stays as it was.
     pub fn fill_cells(&mut self) -> Result<(), AllocError>
         ensures ok { OnOk result (self.new ≡ record self.old {
-          cells = cells_of self.old.placed self.old.placed;
+          cells = cells_of (live_placed self.old) self.old.placed;
         }) }
         ensures same { OnErr result (self.new ≡ self.old) }
     {

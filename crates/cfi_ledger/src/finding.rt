@@ -31,14 +31,14 @@ pub enum Outcome {
     Verify(VerifyFault),
 }
 
-/// What was found of a module behind the first so many that are loaded.
+/// What was found of a module under a policy.
 #[derive(Clone, Copy)]
 pub struct Finding {
-    pub behind: usize,
+    pub policy: u32,
     pub outcome: Outcome,
 }
 
-/// What is known of a module behind all that are loaded, without trying it.
+/// What is known of a module under the policy in force, without trying it.
 #[derive(Drop)]
 pub enum Known {
     /// Nothing that tells what comes of its load.

@@ -48,6 +48,7 @@ fn calls_of(alloc: Global, script: &[ScriptLine]) -> Result<Vec<Due>, AllocError
     for line in script {
         match line {
             ScriptLine::Load(number) => calls.push(Due::Load(*number))?,
+            ScriptLine::Retire(number) => calls.push(Due::Retire(*number))?,
             ScriptLine::Refresh(count) => add_refreshes(&mut calls, *count)?,
         }
     }

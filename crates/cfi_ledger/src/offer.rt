@@ -1,12 +1,12 @@
 //! A module that is placed, and taken later.
 
-ghost use Rattle.std.specs.Prelude.{◌≡◌, IfOk, IfErr};
-ghost use Rattle.cfi_ledger.specs.Roster.{line_by};
+ghost use Rattle.std.specs.Prelude.{◌≡◌, IfOk, IfErr, OnOk, OnErr};
+ghost use Rattle.cfi_ledger.specs.Roster.{line_by, series_of, with_offer, IsImageOfRoster, IsOffer};
 ghost use Rattle.cfi_modules.specs.Image.{IsImageOfSeries, IsOrderedImage};
-ghost use Rattle.cfi_modules.specs.Order.{IsJoinFault};
-ghost use Rattle.cfi_modules.specs.Series.{HasJoined, CanBeTaken};
+ghost use Rattle.cfi_modules.specs.Series.{HasJoined, IsRefusedBy, CanBeTaken, CanRejoin};
 
 use crate::entrant::{Entrant, fill_of, line_of};
+use crate::roster::Roster;
 use cfi_aux::{Module, Placed};
 use cfi_modules::{JoinFault, Prepared, Refused, Series};
 use cfi_plan::ModuleLine;
@@ -14,6 +14,7 @@ use cfi_unit::Fill;
 use cfi_word::Image;
 use std::alloc::{AllocError, Global};
 use std::marker::Model;
+use std::mem;
 
 /// Places and verifies a module behind those of a series, and makes the image of all.
 pub(crate) fn imaged(series: Series, unplaced: &Module) -> Result<(Prepared, Image), Refused>
@@ -22,7 +23,7 @@ pub(crate) fn imaged(series: Series, unplaced: &Module) -> Result<(Prepared, Ima
     ensures image { IfOk result (λ pair. IsImageOfSeries pair.0 pair.1) }
     ensures ordered { IfOk result (λ pair. IsOrderedImage pair.0.placed pair.1) }
     ensures fault { IfErr result (λ refused.
-        IsJoinFault series.code_words series.placed unplaced.now refused.fault) }
+        IsRefusedBy series unplaced.now refused.fault) }
     ensures same { IfErr result (λ refused. refused.series ≡ series) }
 {
     let prepared = series.prepare(unplaced)?;
@@ -74,5 +75,58 @@ impl Offer {
         ensures { result ≡ self.now.line.number }
     {
         self.line.number
+    }
+}
+
+impl Roster {
+    /// Places and verifies a module behind the others, and makes the image of all, for a load that is made later by
+    /// `take`. The others stay as they are.
+    pub fn offer(
+        &mut self,
+        entrant: &Entrant<'_>,
+        unplaced: &Module,
+    ) -> Result<(Offer, Image), JoinFault>
+        requires { CanBeTaken unplaced.now }
+        ensures ok { IfOk result (λ pair. IsOffer entrant.now.number entrant.now.name.now
+            entrant.now.policy unplaced.now self.old pair.0) }
+        ensures image { IfOk result (λ pair. IsImageOfRoster (with_offer pair.0 self.old) pair.1) }
+        ensures ordered { IfOk result (λ pair.
+            IsOrderedImage (with_offer pair.0 self.old).placed pair.1) }
+        ensures fault { IfErr result (IsRefusedBy (series_of self.old) unplaced.now) }
+        ensures same { self.new ≡ self.old }
+    {
+        let empty = Series::new(self.alloc, &self.series.layout());
+        let series = mem::replace(&mut self.series, empty);
+        match imaged(series, unplaced) {
+            Ok((prepared, image)) => {
+                let (series, placed) = prepared.withdraw();
+                self.series = series;
+                let offer = Offer::of(self.alloc, entrant, placed)?;
+                Ok((offer, image))
+            }
+            Err(refused) => {
+                self.series = refused.series;
+                Err(refused.fault)
+            }
+        }
+    }
+
+    /// Adds a module as it was offered, which joins the others still. It is not placed or verified again, and no cells
+    /// are filled.
+    ///
+    /// Without memory the others stay as they are.
+    pub fn take(&mut self, offer: Offer) -> Result<(), AllocError>
+        requires { CanRejoin (series_of self.old) offer.placed }
+        ensures ok { OnOk result (self.new ≡ with_offer offer self.old) }
+        ensures same { OnErr result (self.new ≡ self.old) }
+    {
+        let Offer { placed, line, fill } = offer;
+        self.lines.reserve(1)?;
+        self.fills.reserve(1)?;
+        self.series.rejoin(placed)?;
+        self.fills.truncate(self.lines.len());
+        self.lines.push_reserved(line);
+        self.fills.push_reserved(fill);
+        Ok(())
     }
 }

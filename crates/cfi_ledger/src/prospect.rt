@@ -7,8 +7,10 @@ use crate::roster::Roster;
 /// What stands against the load of a module before the module is tried, in this order.
 #[derive(Clone, Copy, Debug, PartialEq, Eq)]
 pub enum Prospect {
-    /// It is loaded, at this place in load order.
+    /// It is live, at this place in load order.
     Again(usize),
+    /// It was retired, at this place in load order.
+    Retired(usize),
     /// It is not loaded, and no further module may be.
     Full,
     /// Nothing.
@@ -21,7 +23,8 @@ impl Roster {
         ensures { IsProspect self.now number result }
     {
         match self.find(number) {
-            Some(at) => Prospect::Again(at),
+            Some(at) if self.flags()[at] => Prospect::Again(at),
+            Some(at) => Prospect::Retired(at),
             None if self.is_full() => Prospect::Full,
             None => Prospect::Open,
         }

@@ -1,30 +1,29 @@
 //! The loaded modules, with what a report says of each and the data that came with it.
 
-ghost use Rattle.std.specs.Prelude.{◌≡◌, ◌<◌, [], IfOk, IfErr, IfSome, IfNone, OnOk, OnErr, length, nat_le};
+ghost use Rattle.std.specs.Prelude.{◌≡◌, [], IfOk, IfErr, IfSome, IfNone, OnOk, length, nat_le};
 ghost use Rattle.cfi_aux.specs.declared.placed.Placed.{Placed as PlacedModule};
-ghost use Rattle.cfi_modules.specs.Loaded.{AreLoaded};
-ghost use Rattle.cfi_modules.specs.Order.{IsJoinFault, Joins};
+ghost use Rattle.cfi_modules.specs.Loaded.{AreAmong, AreLoaded};
 ghost use Rattle.cfi_modules.specs.Image.{IsOrderedImage};
-ghost use Rattle.cfi_modules.specs.Series.{CanBeTaken, CanRejoin, IsSeries};
+ghost use Rattle.cfi_modules.specs.Series.{CanBeTaken, IsRefusedBy, IsSeries, JoinsTo};
+ghost use Rattle.cfi_ledger.specs.Force.{count_by_policy};
 ghost use Rattle.cfi_ledger.specs.Loads.{IsListed, IsUnlisted};
-ghost use Rattle.cfi_ledger.specs.Roster.{series_of, with_offer, HasJoined, IsBookOfRoster, IsFilled, IsImageOfRoster, IsOffer};
+ghost use Rattle.cfi_ledger.specs.Roster.{series_of, live_placed, HasJoined, IsBookOfRoster, IsFilled, IsImageOfRoster};
 ghost use Rattle.cfi_policy.specs.Book.{KeepsNumbers};
+ghost use Rattle.cfi_policy.specs.Image.{HaveImage};
 ghost use Rattle.cfi_valid.specs.declared.limits.TheConstants.{MAX_LOADED};
 
 use crate::book::booked;
 use crate::candidate::Candidate;
 use crate::entrant::{Entrant, brought, taken};
-use crate::offer::{Offer, imaged};
 use cfi_aux::{Module, Placed};
 use cfi_modules::{JoinFault, Series};
 use cfi_plan::ModuleLine;
 use cfi_policy::Book;
 use cfi_unit::Fill;
-use cfi_valid::MAX_LOADED;
+use cfi_valid::{MAX_LOADED, Retirement};
 use cfi_word::{Image, Layout};
 use std::alloc::{AllocError, Global};
 use std::marker::Model;
-use std::mem;
 
 /// The loaded modules, in load order.
 #[derive(Drop)]
@@ -32,6 +31,7 @@ pub struct Roster {
     pub(crate) series: Series,
     pub(crate) lines: Vec<ModuleLine>,
     pub(crate) fills: Vec<Fill>,
+    pub(crate) retired: Vec<Retirement>,
     pub(crate) alloc: Global,
 }
 
@@ -58,12 +58,20 @@ impl Roster {
     /// No modules, in the code words of the layout. It takes no memory.
     pub fn new(alloc: Global, layout: &Layout) -> Roster
         ensures { result
-            ≡ record { code_words = layout.now; lines = []; placed = []; cells = [] } }
+            ≡ record {
+              code_words = layout.now;
+              lines = [];
+              placed = [];
+              flags = [];
+              retired = [];
+              cells = [];
+            } }
     {
         Roster {
             series: Series::new(alloc, layout),
             lines: Vec::new(alloc),
             fills: Vec::new(alloc),
+            retired: Vec::new(alloc),
             alloc,
         }
     }
@@ -73,12 +81,13 @@ impl Roster {
         requires { CanBeTaken unplaced.now }
         ensures ok { IfOk result (λ roster. HasJoined entrant.now.number entrant.now.name.now
             entrant.now.policy unplaced.now self roster) }
-        ensures fault { IfErr result (IsJoinFault self.code_words self.placed unplaced.now) }
+        ensures fault { IfErr result (IsRefusedBy (series_of self) unplaced.now) }
     {
         let Roster {
             mut series,
             mut lines,
             mut fills,
+            retired,
             alloc,
         } = self;
         series.add(unplaced)?;
@@ -91,6 +100,7 @@ impl Roster {
             series,
             lines,
             fills,
+            retired,
             alloc,
         })
     }
@@ -99,9 +109,8 @@ impl Roster {
     pub fn joins(&mut self, unplaced: &Module) -> Result<(), JoinFault>
         requires { CanBeTaken unplaced.now }
         ensures ok { OnOk result
-            ((one : PlacedModule) × Joins self.old.code_words self.old.placed unplaced.now one) }
-        ensures fault { IfErr result
-            (IsJoinFault self.old.code_words self.old.placed unplaced.now) }
+            ((one : PlacedModule) × JoinsTo (series_of self.old) unplaced.now one) }
+        ensures fault { IfErr result (IsRefusedBy (series_of self.old) unplaced.now) }
         ensures same { self.new ≡ self.old }
     {
         self.series.joins(unplaced)
@@ -124,16 +133,17 @@ impl Roster {
         ensures before { IfOk result (λ candidate. candidate.before ≡ self) }
         ensures book { IfOk result (λ candidate. IsBookOfRoster candidate.roster candidate.book) }
         ensures kept { IfOk result (λ candidate.
-            KeepsNumbers candidate.roster.placed before.now.image candidate.book.image) }
+            KeepsNumbers (live_placed candidate.roster) before.now.image candidate.book.image) }
         ensures cells { IfOk result (λ candidate. IsFilled candidate.roster) }
         ensures fault { IfErr result (λ unjoined.
-            IsJoinFault self.code_words self.placed unplaced.now unjoined.fault) }
+            IsRefusedBy (series_of self) unplaced.now unjoined.fault) }
         ensures same { IfErr result (λ unjoined. unjoined.roster ≡ self) }
     {
         let Roster {
             series,
             mut lines,
             mut fills,
+            retired,
             alloc,
         } = self;
         let (prepared, book) = match booked(alloc, series, unplaced, before) {
@@ -143,6 +153,7 @@ impl Roster {
                     series: refused.series,
                     lines,
                     fills,
+                    retired,
                     alloc,
                 };
                 return Err(Unjoined {
@@ -164,6 +175,7 @@ impl Roster {
                 prepared,
                 lines,
                 fills,
+                retired,
                 line,
                 fill,
                 cells,
@@ -175,6 +187,7 @@ impl Roster {
                     series: prepared.discard(),
                     lines,
                     fills,
+                    retired,
                     alloc,
                 };
                 Err(Unjoined {
@@ -183,58 +196,6 @@ impl Roster {
                 })
             }
         }
-    }
-
-    /// Places and verifies a module behind the others, and makes the image of all, for a load that is made later by
-    /// `take`. The others stay as they are.
-    pub fn offer(
-        &mut self,
-        entrant: &Entrant<'_>,
-        unplaced: &Module,
-    ) -> Result<(Offer, Image), JoinFault>
-        requires { CanBeTaken unplaced.now }
-        ensures ok { IfOk result (λ pair. IsOffer entrant.now.number entrant.now.name.now
-            entrant.now.policy unplaced.now self.old pair.0) }
-        ensures image { IfOk result (λ pair. IsImageOfRoster (with_offer pair.0 self.old) pair.1) }
-        ensures ordered { IfOk result (λ pair.
-            IsOrderedImage (with_offer pair.0 self.old).placed pair.1) }
-        ensures fault { IfErr result
-            (IsJoinFault self.old.code_words self.old.placed unplaced.now) }
-        ensures same { self.new ≡ self.old }
-    {
-        let empty = Series::new(self.alloc, &self.series.layout());
-        let series = mem::replace(&mut self.series, empty);
-        match imaged(series, unplaced) {
-            Ok((prepared, image)) => {
-                let (series, placed) = prepared.withdraw();
-                self.series = series;
-                let offer = Offer::of(self.alloc, entrant, placed)?;
-                Ok((offer, image))
-            }
-            Err(refused) => {
-                self.series = refused.series;
-                Err(refused.fault)
-            }
-        }
-    }
-
-    /// Adds a module as it was offered, which joins the others still. It is not placed or verified again, and no cells
-    /// are filled.
-    ///
-    /// Without memory the others stay as they are.
-    pub fn take(&mut self, offer: Offer) -> Result<(), AllocError>
-        requires { CanRejoin (series_of self.old) offer.placed }
-        ensures ok { OnOk result (self.new ≡ with_offer offer self.old) }
-        ensures same { OnErr result (self.new ≡ self.old) }
-    {
-        let Offer { placed, line, fill } = offer;
-        self.lines.reserve(1)?;
-        self.fills.reserve(1)?;
-        self.series.rejoin(placed)?;
-        self.fills.truncate(self.lines.len());
-        self.lines.push_reserved(line);
-        self.fills.push_reserved(fill);
-        Ok(())
     }
 
     /// What a report says of each.
@@ -261,12 +222,49 @@ impl Roster {
         self.series.modules()
     }
 
-    /// The image of all, with its classes in the order of their least slots.
+    /// What placing made of the live ones.
+    pub fn live(&self) -> &[Placed]
+        ensures value { result.now ≡ live_placed self.now }
+        ensures among { AreAmong (live_placed self.now) self.now.placed }
+        ensures image { HaveImage (live_placed self.now) self.now.code_words }
+    {
+        self.series.live()
+    }
+
+    /// For each, whether it is live.
+    pub fn flags(&self) -> &[bool]
+        ensures value { result.now ≡ self.now.flags }
+        ensures many { length result.now ≡ length self.now.placed }
+    {
+        self.series.flags()
+    }
+
+    /// Those that were retired, in that order.
+    pub fn retired(&self) -> &[Retirement]
+        ensures { result.now ≡ self.now.retired }
+    {
+        &self.retired
+    }
+
+    /// The image of all under the policy of all, with its classes in the order of their least slots.
     pub fn image(&self) -> Result<Image, AllocError>
         ensures image { IfOk result (IsImageOfRoster self.now) }
         ensures ordered { IfOk result (IsOrderedImage self.now.placed) }
     {
         self.series.image()
+    }
+
+    /// How many of them a policy finds loaded.
+    pub fn count_by_policy(&self, policy: u32) -> usize
+        ensures { result ≡ count_by_policy policy self.now }
+    {
+        let mut count = 0;
+        for line in &self.lines {
+            if line.policy <= policy {
+                count += 1;
+            }
+        }
+        count
     }
 
     /// What a report says of each.

@@ -17,7 +17,7 @@ use Rattle.cfi_unit.proofs.CodeLemmas.{BeginsAt-one}
 use Rattle.cfi_valid.specs.Loaded.{Filled}
 use Rattle.cfi_valid.specs.Replay.{IsReplayed, TakesFrom, given_by, next_in, singles}
 use Rattle.cfi_word.specs.declared.lists.Labels.{Labels}
-use Rattle.cfi_replay.specs.Setting.{IsSetting, loaded_in}
+use Rattle.cfi_replay.specs.Setting.{IsSetting, members_in}
 use Rattle.cfi_replay.specs.declared.cursor.Cursor.{Cursor}
 use Rattle.cfi_replay.specs.declared.setting.Setting.{Setting}
 use Rattle.cfi_replay.specs.inner.Cursor.{HasCounted, HasMark, HasNoPick, HasPicked, marked}
@@ -133,9 +133,9 @@ module _ {s : Setting} {log : List Log} {cursor : Cursor} {old new : PlainState}
       log_is =
           ap (λ (st : State). st.log) state_is ∙ effect_log t.turn.unit t.policy (has_one_class t.labels) old.state
 
-      replayed : TakesFrom Filled (loaded_in s) (next_in log old.state) t.turn.unit old.state t.policy
+      replayed : TakesFrom Filled (members_in s) (next_in log old.state) t.turn.unit old.state t.policy
           (lets t.labels t.turn.unit old.state) too_many
-          → IsReplayed Filled s.code.now (loaded_in s) log old.state new.state
+          → IsReplayed Filled s.code.now (members_in s) log old.state new.state
       replayed takes = record {
         going = t.going;
         unit = t.turn.unit;
@@ -154,7 +154,8 @@ module _ {s : Setting} {log : List Log} {cursor : Cursor} {old new : PlainState}
 
       kept : picks t.turn.unit old.state ≡ false → HasGone s log old cursor new
       kept no_pick = record {
-        unit = replayed (takes_nothing (loaded_in s) (next_in log old.state) old.state t.policy t.labels t.turn.unit quiet
+        unit = replayed (takes_nothing (members_in s) (next_in log old.state) old.state t.policy t.labels t.turn.unit
+            quiet
             no_pick);
         follows = record {
           idle = idle;
@@ -189,7 +190,8 @@ module _ {s : Setting} {log : List Log} {cursor : Cursor} {old new : PlainState}
           let many : length (singles new.state.log) ≡ n + 1 =
           ap (λ (l : List Log). length (singles l)) more ∙ many_picked t.policy old.state.log in
           record {
-            unit = replayed (takes_pick (loaded_in s) (next_in log old.state) old.state t.policy t.labels t.turn.unit one
+            unit = replayed (takes_pick (members_in s) (next_in log old.state) old.state t.policy t.labels t.turn.unit
+                one
                 next t.labels_are);
             follows = record {
               idle = idle;
@@ -202,7 +204,8 @@ module _ {s : Setting} {log : List Log} {cursor : Cursor} {old new : PlainState}
                     ∙ sym (ap given_by more ∙ given_picked t.policy old.state.log);
                 mark = subst (HasMark new.state.log) (sym p.is) noted_mark;
               };
-              rises = counted_rises s.force log cursor p.policy p.count p.next t.follows.at.settled t.follows.rises p.mid
+              rises = counted_rises s.force log cursor p.policy p.count p.next t.follows.at.settled t.follows.rises
+                  p.mid
                   p.counted after (ap (λ (x : Cursor). x.at) p.is) policy_after_is given_after_is;
             };
           }
@@ -233,17 +236,17 @@ module _ {s : Setting} {log : List Log} {cursor : Cursor} {old new : PlainState}
         went done = went_by (picks t.turn.unit old.state) refl done
 
         stuck_by : (b : Bool) → picks t.turn.unit old.state ≡ b → result ≡ false → (last : State)
-            → IsReplayed Filled s.code.now (loaded_in s) log old.state last → ⊥
+            → IsReplayed Filled s.code.now (members_in s) log old.state last → ⊥
         stuck_by false no_pick no_result last r = (none_is no_result).0 (mark_kept no_pick)
         stuck_by true one no_result last r =
             let unit : r.unit ≡ t.turn.unit =
             BeginsAt-one s.code.now _ r.unit t.turn.unit r.stands.begins t.turn.stands.begins in
             let one_there : picks r.unit old.state ≡ true = ap (λ (u : CodeUnit). picks u old.state) unit ∙ one in
-            let next = pick_taken (loaded_in s) (next_in log old.state) old.state r.unit one_there r.pick r.allowed
+            let next = pick_taken (members_in s) (next_in log old.state) old.state r.unit one_there r.pick r.allowed
             r.reply r.takes in
             let entry = single_pick (slice_get log cursor.at) r.pick
             (sym (next_of s log cursor old.state t.follows.at) ∙ next) in
             (none_is no_result).1 r.pick entry.0 entry.1
 
-        pub stuck : result ≡ false → (last : State) → IsReplayed Filled s.code.now (loaded_in s) log old.state last → ⊥
+        pub stuck : result ≡ false → (last : State) → IsReplayed Filled s.code.now (members_in s) log old.state last → ⊥
         stuck no_result last r = stuck_by (picks t.turn.unit old.state) refl no_result last r

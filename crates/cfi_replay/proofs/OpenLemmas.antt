@@ -19,12 +19,12 @@ use Rattle.cfi_unit.specs.declared.unit.Unit.TheVariants as units
 use Rattle.cfi_unit.proofs.CodeLemmas.{BeginsAt-one}
 use Rattle.cfi_valid.proofs.AnswerLemmas.{opens_as, opens_of, refused_same}
 use Rattle.cfi_valid.proofs.SinglesLemmas.{singles_more}
-use Rattle.cfi_valid.specs.Loaded.{LoadedModule, fills_between, Filled}
+use Rattle.cfi_valid.specs.Loaded.{Members, fills_between, Filled}
 use Rattle.cfi_valid.specs.Log.{why_of}
 use Rattle.cfi_valid.specs.Replay.{IsReplyOf, IsReplayed, TakesAnswer, TakesFrom, given_after, given_by, next_in, singles, singles_of}
 use Rattle.cfi_word.specs.declared.limits.TheConstants.{MAX_OPENS}
 use Rattle.cfi_word.specs.declared.services.TheConstants as services
-use Rattle.cfi_replay.specs.Setting.{CanReplay, loaded_in}
+use Rattle.cfi_replay.specs.Setting.{CanReplay, members_in}
 use Rattle.cfi_replay.specs.declared.cursor.Cursor.{Cursor}
 use Rattle.cfi_replay.specs.declared.setting.Setting.{Setting}
 use Rattle.cfi_replay.specs.inner.Cursor.{HasAnswered, HasMark, IsSettled, marked}
@@ -58,33 +58,34 @@ opens_by s is =
 
 -- ---- no answer
 
-no_reply : (loaded : List LoadedModule) (s : State) (reply : Reply) (entry : Option Log) → IsNoAnswer entry
-    → IsReplyOf Filled loaded s (single_by entry) reply → ⊥
-no_reply loaded s reply (Some (Pick policy count)) none is = is
-no_reply loaded s reply (Some (Open number address policy)) none is = none
-no_reply loaded s reply (Some (Cause number cause)) none is = none
-no_reply loaded s reply None none is = is
+no_reply : (members : Members) (s : State) (reply : Reply) (entry : Option Log) → IsNoAnswer entry
+    → IsReplyOf Filled members s (single_by entry) reply → ⊥
+no_reply members s reply (Some (Pick policy count)) none is = is
+no_reply members s reply (Some (Open number address policy)) none is = none
+no_reply members s reply (Some (Cause number cause)) none is = none
+no_reply members s reply None none is = is
 
 module _ (s : Setting) (log : List Log) (cursor : Cursor) where
   no_open : (old : State) → (unit : CodeUnit) → Stands s.code.now old.pc unit → asks_of unit old ≡ true
       → IsNoAnswer (slice_get log cursor.at) → next_in log old ≡ single_by (slice_get log cursor.at)
-      → (last : State) → IsReplayed Filled s.code.now (loaded_in s) log old last → ⊥
+      → (last : State) → IsReplayed Filled s.code.now (members_in s) log old last → ⊥
   no_open old unit stands asking none next last r =
       let same : r.unit ≡ unit = BeginsAt-one s.code.now _ r.unit unit r.stands.begins stands.begins in
       let there : asks_of r.unit old ≡ true = ap (λ (u : CodeUnit). asks_of u old) same ∙ asking in
-      let reply = reply_taken (loaded_in s) (next_in log old) old r.unit there r.pick r.allowed r.reply r.takes in
-      no_reply (loaded_in s) old r.reply (slice_get log cursor.at) none
-      (subst (λ (e : Option Log). IsReplyOf Filled (loaded_in s) old e r.reply) next reply)
+      let reply = reply_taken (members_in s) (next_in log old) old r.unit there r.pick r.allowed r.reply r.takes in
+      no_reply (members_in s) old r.reply (slice_get log cursor.at) none
+      (subst (λ (e : Option Log). IsReplyOf Filled (members_in s) old e r.reply) next reply)
 
 -- ---- an answer
 
 module _ (s : Setting) (log : List Log) (cursor : Cursor) (can : CanReplay s log) (old : PlainState)
     (follows : Follows s log cursor old) (going : old.state.stop ≡ None) (unit : CodeUnit)
-    (stands : Stands s.code.now old.state.pc unit) (asking : AsksBy unit old.state) (after_it : Cursor) (new : PlainState)
+    (stands : Stands s.code.now old.state.pc unit) (asking : AsksBy unit old.state) (after_it : Cursor)
+    (new : PlainState)
   where
     -- the machine has this reply, and logs an entry that stands for as much as the next one
     module _ (entry logged : Log) (next : slice_get log cursor.at ≡ Some entry) (reply : Reply)
-        (told : IsReplyOf Filled (loaded_in s) old.state (Some entry) reply)
+        (told : IsReplyOf Filled (members_in s) old.state (Some entry) reply)
         (single_is : single_by (Some entry) ≡ Some entry) (idle : new.waits ≡ false)
         (state_is : new.state ≡ going_to (after 4 old.state.pc) 1 (served Opens reply old.state))
         (log_is : new.state.log ≡ old.state.log ++ logged ∷ []) (one : singles_of logged ≡ logged ∷ [])
@@ -94,14 +95,14 @@ module _ (s : Setting) (log : List Log) (cursor : Cursor) (can : CanReplay s log
         (policy_logs : policy_after (last_policy old.state.log) logged ≡ (reach_by cursor entry).policy)
         (given_logs : given_after (given_by old.state.log) logged ≡ (reach_by cursor entry).given)
         (given_most : (reach_by cursor entry).given ≤ (reach_by cursor entry).policy) where
-      unit_gone : IsReplayed Filled s.code.now (loaded_in s) log old.state new.state
+      unit_gone : IsReplayed Filled s.code.now (members_in s) log old.state new.state
       unit_gone =
           let next_is : next_in log old.state ≡ Some entry =
           next_of s log cursor old.state follows.at ∙ ap single_by next ∙ single_is in
-          let asked_told : TakesAnswer Filled true (loaded_in s) old.state (next_in log old.state) reply =
-          subst (λ (e : Option Log). IsReplyOf Filled (loaded_in s) old.state e reply) (sym next_is) told in
-          let takes : TakesFrom Filled (loaded_in s) (next_in log old.state) units.Service old.state 0 true reply =
-          subst (λ (b : Bool). TakesAnswer Filled b (loaded_in s) old.state (next_in log old.state) reply)
+          let asked_told : TakesAnswer Filled true (members_in s) old.state (next_in log old.state) reply =
+          subst (λ (e : Option Log). IsReplyOf Filled (members_in s) old.state e reply) (sym next_is) told in
+          let takes : TakesFrom Filled (members_in s) (next_in log old.state) units.Service old.state 0 true reply =
+          subst (λ (b : Bool). TakesAnswer Filled b (members_in s) old.state (next_in log old.state) reply)
           (sym asking.asks_it) asked_told in
           let effect_is : new.state ≡ effect units.Service 0 (λ slot target. true) reply old.state =
           state_is ∙ ap (λ (x : Service). going_to (after 4 old.state.pc) 1 (served x reply old.state))
@@ -155,22 +156,25 @@ module _ (s : Setting) (log : List Log) (cursor : Cursor) (can : CanReplay s log
 
     open_gone : (number address policy : ℕ) → slice_get log cursor.at ≡ Some (Open number address policy)
         → new ≡ answered (reply_by s cursor (Open number address policy)) (record old { waits = true })
-        → HasAnswered log new.state.log (reach_by cursor (Open number address policy)) cursor after_it → HasGone s log old after_it new
+        → HasAnswered log new.state.log (reach_by cursor (Open number address policy)) cursor after_it → HasGone s log
+        old after_it new
     open_gone number address policy next is has =
         let entry : Log = Open number address policy in
-        let fills : fills_between Filled cursor.given policy (loaded_in s)
-        ≡ fills_between Filled (given_by old.state.log) policy (loaded_in s) =
-        ap (λ (g : ℕ). fills_between Filled g policy (loaded_in s)) follows.at.given_is in
+        let fills : fills_between Filled cursor.given policy (members_in s)
+        ≡ fills_between Filled (given_by old.state.log) policy (members_in s) =
+        ap (λ (g : ℕ). fills_between Filled g policy (members_in s)) follows.at.given_is in
         let reply : Reply =
-        reply_of address 0 policy (fills_between Filled (given_by old.state.log) policy (loaded_in s)) in
+        reply_of address 0 policy (fills_between Filled (given_by old.state.log) policy (members_in s)) in
         let state_is : new.state ≡ going_to (after 4 old.state.pc) 1 (served Opens reply old.state) =
         ap (λ (m : PlainState). m.state) is
-        ∙ ap (λ (fs : List Fill). going_to (after 4 old.state.pc) 1 (served Opens (reply_of address 0 policy fs) old.state))
+        ∙ ap (λ (fs : List Fill). going_to (after 4 old.state.pc) 1 (served Opens (reply_of address 0 policy fs)
+        old.state))
         fills in
         let least : policy ≤ policy = omega arith in
         gone entry (Open (argument old.state) address policy) next reply refl refl
         (ap (λ (m : PlainState). m.waits) is) state_is (ap (λ (t : State). t.log) state_is) refl refl
-        (subst (IsSettled cursor.used) (drop_entry log cursor.at entry next) follows.at.settled) has refl refl refl least
+        (subst (IsSettled cursor.used) (drop_entry log cursor.at entry next) follows.at.settled) has refl refl refl
+        least
 
     cause_gone : (number cause : ℕ) → slice_get log cursor.at ≡ Some (Cause number cause)
         → new ≡ answered (reply_by s cursor (Cause number cause)) (record old { waits = true })
@@ -213,7 +217,8 @@ module _ {s : Setting} {log : List Log} {cursor : Cursor} {old mid : PlainState}
 
   -- it has the answer of the next entry
   pub answer_gone : CanReplay s log → (after_it : Cursor) (new : PlainState)
-      → HasAnsweredBy s log (record { cursor = cursor; machine = mid }) (record { cursor = after_it; machine = new }) → HasGone s log old after_it new
+      → HasAnsweredBy s log (record { cursor = cursor; machine = mid }) (record { cursor = after_it; machine = new })
+      → HasGone s log old after_it new
   answer_gone can after_it new by =
       entry_gone s log cursor can old t.follows t.going t.turn.unit t.turn.stands
       (asks_by t.turn.unit old.state (turn_asks t waits)) after_it new by.entry by.next by.answers
@@ -221,7 +226,7 @@ module _ {s : Setting} {log : List Log} {cursor : Cursor} {old mid : PlainState}
 
   -- which answers none
   pub answer_stuck : IsNoAnswer (slice_get log cursor.at) → (last : State)
-      → IsReplayed Filled s.code.now (loaded_in s) log old.state last → ⊥
+      → IsReplayed Filled s.code.now (members_in s) log old.state last → ⊥
   answer_stuck none last r =
       no_open s log cursor old.state t.turn.unit t.turn.stands (turn_asks t waits) none
       (next_of s log cursor old.state t.follows.at) last r

@@ -9,7 +9,7 @@ use Rattle.cfi_model.specs.State.{State}
 use Rattle.cfi_unit.specs.declared.log.Log.{Log}
 use Rattle.cfi_unit.specs.declared.unit.Unit.{Unit as CodeUnit}
 use Rattle.cfi_unit.specs.declared.unit.Unit.TheVariants as units
-use Rattle.cfi_valid.specs.Loaded.{LoadedModule, Filled}
+use Rattle.cfi_valid.specs.Loaded.{Members, Filled}
 use Rattle.cfi_valid.specs.Log.{NeverFall}
 use Rattle.cfi_valid.specs.Replay.{IsReplayed, given_by, singles}
 use Rattle.cfi_replay.specs.Setting.{CanReplay}
@@ -64,7 +64,7 @@ effect_counts (units.Jump link off) pick allowed reply s = refl
 effect_counts (units.Check link rs1 imm slot) pick allowed reply s = refl
 effect_counts units.Service pick allowed reply s = refl
 
-pub unit_counts : (code : List ℕ) (loaded : List LoadedModule) (log : List Log) (old new : State)
-    → IsReplayed Filled code loaded log old new → new.units ≡ old.units + 1
-unit_counts code loaded log old new r =
+pub unit_counts : (code : List ℕ) (members : Members) (log : List Log) (old new : State)
+    → IsReplayed Filled code members log old new → new.units ≡ old.units + 1
+unit_counts code members log old new r =
     ap (λ (s : State). s.units) r.is ∙ effect_counts r.unit r.pick r.allowed r.reply old

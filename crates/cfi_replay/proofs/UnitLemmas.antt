@@ -11,7 +11,7 @@ use Rattle.cfi_unit.specs.declared.log.Log.{Log}
 use Rattle.cfi_unit.specs.declared.log.Log.TheVariants.{Pick, Open, Cause}
 use Rattle.cfi_unit.specs.declared.unit.Unit.{Unit as CodeUnit}
 use Rattle.cfi_unit.specs.declared.unit.Unit.TheVariants as units
-use Rattle.cfi_valid.specs.Loaded.{LoadedModule, Filled}
+use Rattle.cfi_valid.specs.Loaded.{Members, Filled}
 use Rattle.cfi_valid.specs.Replay.{IsReplyOf, TakesAnswer, TakesFrom, TakesPick}
 use Rattle.cfi_word.specs.declared.lists.Labels.{Labels}
 use Rattle.cfi_labels.specs.Labels.{AreLabelsAt}
@@ -83,9 +83,9 @@ effect_lets labels (units.Jump link off) policy reply s = refl
 effect_lets labels (units.Check link rs1 imm slot) policy reply s = refl
 effect_lets labels units.Service policy reply s = refl
 
-module _ (loaded : List LoadedModule) (next : Option Log) (s : State) (policy : ℕ) (labels : Labels) where
+module _ (members : Members) (next : Option Log) (s : State) (policy : ℕ) (labels : Labels) where
   pub takes_nothing : (unit : CodeUnit) → asks_of unit s ≡ false → picks unit s ≡ false
-      → TakesFrom Filled loaded next unit s policy (lets labels unit s) too_many
+      → TakesFrom Filled members next unit s policy (lets labels unit s) too_many
   takes_nothing (units.Plain insn) idle none = tt
   takes_nothing (units.Load kind rd rs1 imm) idle none = tt
   takes_nothing (units.Store kind rs1 rs2 imm) idle none = tt
@@ -93,14 +93,15 @@ module _ (loaded : List LoadedModule) (next : Option Log) (s : State) (policy : 
   takes_nothing (units.Jump link off) idle none = tt
   takes_nothing (units.Check link rs1 imm slot) idle none =
       let target = displaced (register s rs1) imm in
-      let taken : TakesPick false loaded next slot target policy (has_one_class labels slot target) = tt in
-      subst (λ (b : Bool). TakesPick b loaded next slot target policy (has_one_class labels slot target)) (sym none) taken
+      let taken : TakesPick false members next slot target policy (has_one_class labels slot target) = tt in
+      subst (λ (b : Bool). TakesPick b members next slot target policy (has_one_class labels slot target)) (sym none)
+      taken
   takes_nothing units.Service idle none =
-      let taken : TakesAnswer Filled false loaded s next too_many = refl in
-      subst (λ (b : Bool). TakesAnswer Filled b loaded s next too_many) (sym idle) taken
+      let taken : TakesAnswer Filled false members s next too_many = refl in
+      subst (λ (b : Bool). TakesAnswer Filled b members s next too_many) (sym idle) taken
 
   pub takes_pick : (unit : CodeUnit) → picks unit s ≡ true → next ≡ Some (Pick policy 1)
-      → AreLabelsAt loaded policy labels → TakesFrom Filled loaded next unit s policy (lets labels unit s) too_many
+      → AreLabelsAt members policy labels → TakesFrom Filled members next unit s policy (lets labels unit s) too_many
   takes_pick (units.Plain insn) one is labels_are = tt
   takes_pick (units.Load kind rd rs1 imm) one is labels_are = tt
   takes_pick (units.Store kind rs1 rs2 imm) one is labels_are = tt
@@ -108,37 +109,38 @@ module _ (loaded : List LoadedModule) (next : Option Log) (s : State) (policy : 
   takes_pick (units.Jump link off) one is labels_are = tt
   takes_pick (units.Check link rs1 imm slot) one is labels_are =
       let target = displaced (register s rs1) imm in
-      let taken : TakesPick true loaded next slot target policy (has_one_class labels slot target) =
+      let taken : TakesPick true members next slot target policy (has_one_class labels slot target) =
       record { is = is; exact = labels_are slot target one } in
-      subst (λ (b : Bool). TakesPick b loaded next slot target policy (has_one_class labels slot target)) (sym one) taken
+      subst (λ (b : Bool). TakesPick b members next slot target policy (has_one_class labels slot target)) (sym one)
+      taken
   takes_pick units.Service one is labels_are = absurd (false≢true one)
 
 -- a check of a target in the code takes a pick
-pub pick_taken : (loaded : List LoadedModule) (next : Option Log) (s : State) (unit : CodeUnit) → picks unit s ≡ true
-    → (pick : ℕ) (allowed : Bool) (reply : Reply) → TakesFrom Filled loaded next unit s pick allowed reply
+pub pick_taken : (members : Members) (next : Option Log) (s : State) (unit : CodeUnit) → picks unit s ≡ true
+    → (pick : ℕ) (allowed : Bool) (reply : Reply) → TakesFrom Filled members next unit s pick allowed reply
     → next ≡ Some (Pick pick 1)
-pick_taken loaded next s (units.Plain insn) one pick allowed reply takes = absurd (false≢true one)
-pick_taken loaded next s (units.Load kind rd rs1 imm) one pick allowed reply takes = absurd (false≢true one)
-pick_taken loaded next s (units.Store kind rs1 rs2 imm) one pick allowed reply takes = absurd (false≢true one)
-pick_taken loaded next s (units.Branch cond rs1 rs2 off) one pick allowed reply takes = absurd (false≢true one)
-pick_taken loaded next s (units.Jump link off) one pick allowed reply takes = absurd (false≢true one)
-pick_taken loaded next s (units.Check link rs1 imm slot) one pick allowed reply takes =
+pick_taken members next s (units.Plain insn) one pick allowed reply takes = absurd (false≢true one)
+pick_taken members next s (units.Load kind rd rs1 imm) one pick allowed reply takes = absurd (false≢true one)
+pick_taken members next s (units.Store kind rs1 rs2 imm) one pick allowed reply takes = absurd (false≢true one)
+pick_taken members next s (units.Branch cond rs1 rs2 off) one pick allowed reply takes = absurd (false≢true one)
+pick_taken members next s (units.Jump link off) one pick allowed reply takes = absurd (false≢true one)
+pick_taken members next s (units.Check link rs1 imm slot) one pick allowed reply takes =
     let target = displaced (register s rs1) imm in
-    (subst (λ (b : Bool). TakesPick b loaded next slot target pick allowed) one takes).is
-pick_taken loaded next s units.Service one pick allowed reply takes = absurd (false≢true one)
+    (subst (λ (b : Bool). TakesPick b members next slot target pick allowed) one takes).is
+pick_taken members next s units.Service one pick allowed reply takes = absurd (false≢true one)
 
 -- an open that can be logged takes a reply
-pub reply_taken : (loaded : List LoadedModule) (next : Option Log) (s : State) (unit : CodeUnit)
+pub reply_taken : (members : Members) (next : Option Log) (s : State) (unit : CodeUnit)
     → asks_of unit s ≡ true → (pick : ℕ) (allowed : Bool) (reply : Reply)
-    → TakesFrom Filled loaded next unit s pick allowed reply → IsReplyOf Filled loaded s next reply
-reply_taken loaded next s (units.Plain insn) one pick allowed reply takes = absurd (false≢true one)
-reply_taken loaded next s (units.Load kind rd rs1 imm) one pick allowed reply takes = absurd (false≢true one)
-reply_taken loaded next s (units.Store kind rs1 rs2 imm) one pick allowed reply takes = absurd (false≢true one)
-reply_taken loaded next s (units.Branch cond rs1 rs2 off) one pick allowed reply takes = absurd (false≢true one)
-reply_taken loaded next s (units.Jump link off) one pick allowed reply takes = absurd (false≢true one)
-reply_taken loaded next s (units.Check link rs1 imm slot) one pick allowed reply takes = absurd (false≢true one)
-reply_taken loaded next s units.Service one pick allowed reply takes =
-    subst (λ (b : Bool). TakesAnswer Filled b loaded s next reply) one takes
+    → TakesFrom Filled members next unit s pick allowed reply → IsReplyOf Filled members s next reply
+reply_taken members next s (units.Plain insn) one pick allowed reply takes = absurd (false≢true one)
+reply_taken members next s (units.Load kind rd rs1 imm) one pick allowed reply takes = absurd (false≢true one)
+reply_taken members next s (units.Store kind rs1 rs2 imm) one pick allowed reply takes = absurd (false≢true one)
+reply_taken members next s (units.Branch cond rs1 rs2 off) one pick allowed reply takes = absurd (false≢true one)
+reply_taken members next s (units.Jump link off) one pick allowed reply takes = absurd (false≢true one)
+reply_taken members next s (units.Check link rs1 imm slot) one pick allowed reply takes = absurd (false≢true one)
+reply_taken members next s units.Service one pick allowed reply takes =
+    subst (λ (b : Bool). TakesAnswer Filled b members s next reply) one takes
 
 -- the next single entry is a pick where the entry is
 pub single_pick : (entry : Option Log) (policy : ℕ) → single_by entry ≡ Some (Pick policy 1)

@@ -5,12 +5,12 @@ ghost use Rattle.std.specs.List.{All};
 ghost use Rattle.cfi_model.specs.Data.{LiesInData};
 ghost use Rattle.cfi_modules.specs.Entry.{HasAddresses};
 ghost use Rattle.cfi_modules.specs.Series.{IsSeries};
-ghost use Rattle.cfi_replay.specs.Setting.{IsSetting, loaded_in};
+ghost use Rattle.cfi_replay.specs.Setting.{IsSetting, loaded_in, members_in};
 ghost use Rattle.cfi_valid.specs.Loaded.{cells_at, data_between, start_data, placed_modules, loaded_by};
 
 use crate::setting::Setting;
 use cfi_aux::Placed;
-use cfi_labels::modules_at_start;
+use cfi_labels::loaded_modules;
 use cfi_modules::loaded_have_entries;
 use cfi_unit::Fill;
 
@@ -32,7 +32,7 @@ impl Setting<'_> {
         ensures addresses { All HasAddresses result.now }
     {
         loaded_have_entries();
-        modules_at_start(self.roster, self.force)
+        loaded_modules(self.roster, 0)
     }
 
     /// Their data.
@@ -42,7 +42,7 @@ impl Setting<'_> {
         ensures lies { All LiesInData result.now }
         ensures series { IsSeries self.now.roster.now.code_words self.now.roster.now.placed }
     {
-        let starts = modules_at_start(self.roster, self.force).len();
+        let starts = loaded_modules(self.roster, 0).len();
         let data = self.roster.data();
         fills_in(data, 0, starts)
     }
@@ -51,14 +51,14 @@ impl Setting<'_> {
     pub(crate) fn data_between(&self, above: u32, upto: u32) -> &[Fill]
         requires setting { IsSetting self.now }
         requires order { above ≤ upto }
-        requires most { upto ≤ self.now.force }
         ensures is { result.now ≡ data_between above upto (loaded_in self.now) }
         ensures lies { All LiesInData result.now }
         ensures series { IsSeries self.now.roster.now.code_words self.now.roster.now.placed }
     {
-        let starts = modules_at_start(self.roster, self.force).len();
+        let from = loaded_modules(self.roster, above).len();
+        let to = loaded_modules(self.roster, upto).len();
         let data = self.roster.data();
-        fills_in(data, starts + above as usize, starts + upto as usize)
+        fills_in(data, from, to)
     }
 
     /// The cells at a policy.
@@ -66,7 +66,7 @@ impl Setting<'_> {
         requires setting { IsSetting self.now }
         requires most { policy ≤ self.now.force }
         requires series { IsSeries self.now.roster.now.code_words self.now.roster.now.placed }
-        ensures is { result.now ≡ cells_at policy (loaded_in self.now) }
+        ensures is { result.now ≡ cells_at policy (members_in self.now) }
         ensures lies { All LiesInData result.now }
     {
         self.cells[policy as usize].as_slice()

@@ -6,7 +6,7 @@ ghost use Rattle.cfi_model.specs.Plain.{answered};
 ghost use Rattle.cfi_model.specs.Service.{reply_of};
 ghost use Rattle.cfi_model.specs.Shows.{Stands};
 ghost use Rattle.cfi_model.specs.State.{State};
-ghost use Rattle.cfi_replay.specs.Setting.{CanReplay, IsSetting, loaded_in};
+ghost use Rattle.cfi_replay.specs.Setting.{CanReplay, IsSetting, members_in};
 ghost use Rattle.cfi_replay.specs.inner.Follows.{next_policy, Asks, Follows, HasAnsweredBy, HasGone, HasTurned, IsNoAnswer};
 ghost use Rattle.cfi_unit.specs.declared.unit.Unit.{Unit as CodeUnit};
 ghost use Rattle.cfi_valid.specs.Loaded.{fills_between, Filled};
@@ -54,7 +54,7 @@ impl Setting<'_> {
         requires waiting { machine.old.waits ≡ true }
         requires rises { last_policy machine.old.state.log ≤ policy }
         ensures { machine.new ≡ answered (reply_of address 0 policy
-            (fills_between Filled given policy (loaded_in self.now))) machine.old }
+            (fills_between Filled given policy (members_in self.now))) machine.old }
     {
         let fills = self.data_between(given, policy);
         machine.answer(&Answer {
@@ -128,7 +128,7 @@ impl Setting<'_> {
         ensures went { IsTrue result →
             HasGone self.now log.now machine.old cursor.new machine.new }
         ensures stuck { result ≡ false → (new : State) →
-            ¬ IsReplayed Filled self.now.code.now (loaded_in self.now) log.now
+            ¬ IsReplayed Filled self.now.code.now (members_in self.now) log.now
             machine.old.state new }
     {
         if has_stopped(machine) {

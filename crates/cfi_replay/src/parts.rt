@@ -1,7 +1,7 @@
 //! The replay of a guest's part.
 
 ghost use Rattle.std.specs.Prelude.{◌≡◌, IfNone, IfOk, IfSome};
-ghost use Rattle.cfi_replay.specs.Setting.{loaded_in, CanReplay, IsSetting, ComesIn, ComesNowhere};
+ghost use Rattle.cfi_replay.specs.Setting.{members_in, CanReplay, IsSetting, ComesIn, ComesNowhere};
 ghost use Rattle.cfi_model.specs.Plain.{plain_opened};
 ghost use Rattle.cfi_model.specs.State.{State};
 ghost use Rattle.cfi_replay.specs.inner.Follows.{HasReplayed, IsStart};
@@ -24,7 +24,7 @@ fn opened(
 ) -> Result<Plain, AllocError>
     requires { IsSetting setting.now }
     ensures { IfOk result (λ m. m ≡ plain_opened number address
-        (start_fills Filled (loaded_in setting.now))) }
+        (start_fills Filled (members_in setting.now))) }
 {
     let mut machine = Plain::open(alloc, number, address, setting.start_data())?;
     machine.fill(setting.cells_at(0));

@@ -39,7 +39,7 @@ use Rattle.cfi_text.specs.Lines.{numbered_lines}
 use Rattle.cfi_unit.specs.declared.log.Log.{Log}
 use Rattle.cfi_unit.specs.declared.log.Stop.TheVariants as stops
 use Rattle.cfi_valid.specs.Course.{Course}
-use Rattle.cfi_valid.specs.Journal.{JournalState, EntriesLead}
+use Rattle.cfi_valid.specs.Journal.{JournalState, EntriesLead, members_of}
 use Rattle.cfi_valid.specs.Loaded.{LoadedModule, placed_modules, loaded_by, start_fills, Left}
 use Rattle.cfi_valid.specs.Parts.{ComesTo}
 use Rattle.cfi_valid.specs.Replay.{Replays}
@@ -112,8 +112,8 @@ module _ (plan : Plan) (modules : List Module) (journal : List Entry) (end : Sta
 
   unspent : s.stop ≢ Some stops.Fuel
   unspent =
-      replay_unspent Left code end.state.loaded s.log s.units
-      (opened number run.address (start_fills Left end.state.loaded)) s run.replayed refl
+      replay_unspent Left code (members_of end.state) s.log s.units
+      (opened number run.address (start_fills Left (members_of end.state))) s run.replayed refl
 
   -- where it runs, or where the fuel has stopped it
   pub record HasEnd : Type 0 where
@@ -151,11 +151,11 @@ module _ (plan : Plan) (modules : List Module) (journal : List Entry) (end : Sta
     code = code;
     is_code = is_code;
     replay = subst
-        (λ (log : List Log). Replays Left code end.state.loaded log r.base.units
-        (opened number run.address (start_fills Left end.state.loaded)) s) (sym shown.log)
+        (λ (log : List Log). Replays Left code (members_of end.state) log r.base.units
+        (opened number run.address (start_fills Left (members_of end.state))) s) (sym shown.log)
         (subst
-        (λ (n : ℕ). Replays Left code end.state.loaded s.log n
-        (opened number run.address (start_fills Left end.state.loaded)) s) (sym shown.units) run.replayed);
+        (λ (n : ℕ). Replays Left code (members_of end.state) s.log n
+        (opened number run.address (start_fills Left (members_of end.state))) s) (sym shown.units) run.replayed);
   }
 
   pub simulated : IsSimulated c end.world number part

@@ -19,12 +19,13 @@ use Rattle.cfi_sim.specs.declared.limits.TheConstants.{MAX_UPDATES}
 use Rattle.cfi_plan.specs.Bare.{bare_plan}
 use Rattle.cfi_valid.specs.Course.{Course}
 use Rattle.cfi_valid.specs.Example.{hello_module}
+use Rattle.cfi_valid.specs.Journal.{members_of}
 use Rattle.cfi_valid.specs.Loaded.{start_fills, Left}
 use Rattle.cfi_valid.specs.Parts.{ComesTo, FitsSteps}
 use Rattle.cfi_valid.specs.Valid.{course_of}
 use Rattle.cfi_valid.proofs.example.ExampleCode.{length-copies, stands}
 use Rattle.cfi_valid.proofs.example.ExampleLemmas.{hello_words, sets, hello_placed, fit}
-use Rattle.cfi_valid.proofs.example.ExampleReplay.{one, end, opening, code, is_code, s0}
+use Rattle.cfi_valid.proofs.example.ExampleReplay.{end, opening, code, is_code, s0}
 use Rattle.cfi_word.specs.Table.{slots_of}
 use Rattle.cfi_word.specs.declared.ids.TheConstants.{FIELD_MAX}
 use Rattle.cfi_word.specs.declared.limits.TheConstants.{MAX_CODE_WORDS, MAX_VERSIONS, FUEL}
@@ -70,7 +71,7 @@ is_image = record { labels = labels; code = is_code }
 -- ---- the stage
 
 abbrev guest : Raw
-guest = raw_opened 0 (4 * FIRST_BASE) (start_fills Left (one ∷ []))
+guest = raw_opened 0 (4 * FIRST_BASE) (start_fills Left (members_of end))
 
 abbrev world : World
 world = opened_world MAX_CODE_WORDS MAX_VERSIONS 0 image (guest ∷ []) MAX_UPDATES FUEL

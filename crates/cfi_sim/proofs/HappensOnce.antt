@@ -29,9 +29,11 @@ use Rattle.cfi_sim.specs.Stage.{Stage, IsMade, after_event, loaded_as, with_jour
 use Rattle.cfi_sim.specs.Stands.{Holds}
 use Rattle.cfi_sim.proofs.ImageOnce.{image_once}
 use Rattle.cfi_sim.proofs.journal.BegunLemmas.{series_with}
-use Rattle.cfi_valid.specs.Joining.{IsFull, HasFault}
-use Rattle.cfi_valid.specs.Journal.{JournalState, IsClean, LineLeads}
-use Rattle.cfi_valid.specs.Loaded.{placed_modules, IsLoaded}
+use Rattle.cfi_sim.proofs.journal.ComingLemmas.{live_is_loaded}
+use Rattle.cfi_valid.specs.Joining.{IsFull}
+use Rattle.cfi_valid.specs.Journal.{JournalState, members_of, live_in, IsClean, IsFaulty, LineLeads}
+use Rattle.cfi_valid.specs.Loaded.{placed_modules}
+use Rattle.cfi_valid.specs.Retiring.{IsLiveAt}
 use Rattle.cfi_valid.specs.NumberedLine.{numbered_line}
 use Rattle.cfi_valid.proofs.JournalLemmas.{clean_once}
 use Rattle.cfi_word.specs.declared.lists.Image.{Image}
@@ -106,15 +108,15 @@ module _ (plan : Plan) (modules : List Module) where
     -- why it is told at once
     abbrev WhyTold : JournalLine → Type 0
     WhyTold line =
-        (IsLoaded s.loaded number × (line ≡ lines.LoadAgain number s.policy))
+        (IsLiveAt s.policy (members_of s) number × (line ≡ lines.LoadAgain number s.policy))
         ⊎ ((IsFull modules s.loaded number × (line ≡ lines.LoadFull number))
-        ⊎ ((fault : FaultNumbers) × HasFault plan.code_words modules s.loaded number fault
+        ⊎ ((fault : FaultNumbers) × IsFaulty plan modules s number fault
         × (line ≡ numbered_line number fault)))
 
     why_told : (line : JournalLine) → TellsLoad line number → LineLeads plan modules s line s → WhyTold line
     why_told (lines.LoadAgain asked policy) told legal =
         inl (
-          subst (IsLoaded s.loaded) told legal.0.loaded,
+          subst (IsLiveAt s.policy (members_of s)) told legal.0.live,
           ap (λ (n : ℕ). lines.LoadAgain n policy) told ∙ ap (λ (p : ℕ). lines.LoadAgain number p) legal.0.force,
         )
     why_told (lines.LoadFull asked) told legal =
@@ -122,21 +124,27 @@ module _ (plan : Plan) (modules : List Module) where
     why_told (lines.LoadPlace asked fault) told legal =
         inr (inr (
           numbers.Place fault,
-          subst (λ (n : ℕ). HasFault plan.code_words modules s.loaded n (numbers.Place fault)) told legal.0,
+          subst (λ (n : ℕ). IsFaulty plan modules s n (numbers.Place fault)) told legal.0,
           ap (λ (n : ℕ). lines.LoadPlace n fault) told,
         ))
     why_told (lines.LoadVerify asked fault place) told legal =
         inr (inr (
           numbers.Verify fault place,
-          subst (λ (n : ℕ). HasFault plan.code_words modules s.loaded n (numbers.Verify fault place)) told legal.0,
+          subst (λ (n : ℕ). IsFaulty plan modules s n (numbers.Verify fault place)) told legal.0,
           ap (λ (n : ℕ). lines.LoadVerify n fault place) told,
         ))
     why_told (lines.LoadOk asked epoch policy) told legal = absurd told
     why_told (lines.LoadVersions asked guest quiet) told legal = absurd told
     why_told (lines.LoadEpochs asked) told legal = absurd told
+    why_told (lines.LoadRetired asked) told legal = absurd told
     why_told (lines.RefreshOk epoch) told legal = absurd told
     why_told (lines.RefreshVersions guest quiet) told legal = absurd told
     why_told lines.RefreshEpochs told legal = absurd told
+    why_told (lines.RetireOk asked epoch policy) told legal = absurd told
+    why_told (lines.RetireNotLive asked) told legal = absurd told
+    why_told (lines.RetireInUse asked user) told legal = absurd told
+    why_told (lines.RetireVersions asked guest quiet) told legal = absurd told
+    why_told (lines.RetireEpochs asked) told legal = absurd told
 
     -- a fault that is told is not want of memory
     not_memory : (fault : JoinFault) (told : FaultNumbers) → numbers_of fault ≡ Some told → fault ≢ Memory
@@ -144,43 +152,47 @@ module _ (plan : Plan) (modules : List Module) where
         let none : None ≡ Some told = sym (ap numbers_of memory) ∙ is in
         absurd (cc)
 
-    fault_once : (f g : FaultNumbers) → HasFault plan.code_words modules s.loaded number f
-        → HasFault plan.code_words modules s.loaded number g → f ≡ g
+    fault_once : (f g : FaultNumbers) → IsFaulty plan modules s number f
+        → IsFaulty plan modules s number g → f ≡ g
     fault_once f g p q =
         let both : Some p.absent.unplaced ≡ Some q.absent.unplaced = sym p.absent.is ∙ q.absent.is in
         let one : p.absent.unplaced ≡ q.absent.unplaced = cc in
         let stands =
-        subst (λ (m : Module). IsJoinFault plan.code_words (placed_modules s.loaded) m p.fault) one p.stands in
+        subst (λ (m : Module). IsJoinFault plan.code_words (placed_modules s.loaded) (placed_modules (live_in s)) m p.fault) one
+        p.stands in
         let fault : p.fault ≡ q.fault =
-        one_fault plan.code_words (placed_modules s.loaded) q.absent.unplaced p.fault q.fault stands q.stands
+        one_fault plan.code_words (placed_modules s.loaded) (placed_modules (live_in s)) q.absent.unplaced p.fault q.fault
+        stands q.stands
         (not_memory p.fault f p.told) (not_memory q.fault g q.told) in
         let told : Some f ≡ Some g = sym p.told ∙ ap numbers_of fault ∙ q.told in
         cc
 
     lines_once : (a b : JournalLine) → WhyTold a → WhyTold b → a ≡ b
     lines_once a b (inl p) (inl q) = p.1 ∙ sym q.1
-    lines_once a b (inl p) (inr (inl q)) = absurd (q.0.absent p.0)
-    lines_once a b (inl p) (inr (inr q)) = absurd (q.1.absent.absent p.0)
-    lines_once a b (inr (inl p)) (inl q) = absurd (p.0.absent q.0)
+    lines_once a b (inl p) (inr (inl q)) = absurd (q.0.absent (live_is_loaded s number p.0))
+    lines_once a b (inl p) (inr (inr q)) = absurd (q.1.absent.absent (live_is_loaded s number p.0))
+    lines_once a b (inr (inl p)) (inl q) = absurd (p.0.absent (live_is_loaded s number q.0))
     lines_once a b (inr (inl p)) (inr (inl q)) = p.1 ∙ sym q.1
     lines_once a b (inr (inl p)) (inr (inr q)) = absurd (omega (arith, p.0.full, q.1.absent.room))
-    lines_once a b (inr (inr p)) (inl q) = absurd (p.1.absent.absent q.0)
+    lines_once a b (inr (inr p)) (inl q) = absurd (p.1.absent.absent (live_is_loaded s number q.0))
     lines_once a b (inr (inr p)) (inr (inl q)) = absurd (omega (arith, q.0.full, p.1.absent.room))
     lines_once a b (inr (inr p)) (inr (inr q)) =
         p.2 ∙ ap (numbered_line number) (fault_once p.0 q.0 p.1 q.1) ∙ sym q.2
 
     -- one that is told had no place
     not_clean : (line : JournalLine) → WhyTold line → IsClean plan modules s number → ⊥
-    not_clean line (inl p) clean = clean.absent.absent p.0
+    not_clean line (inl p) clean = clean.absent.absent (live_is_loaded s number p.0)
     not_clean line (inr (inl p)) clean = omega (arith, p.0.full, clean.absent.room)
     not_clean line (inr (inr p)) clean =
         let has = p.1 in
         let both : Some has.absent.unplaced ≡ Some clean.absent.unplaced = sym has.absent.is ∙ clean.absent.is in
         let one : has.absent.unplaced ≡ clean.absent.unplaced = cc in
         not_memory has.fault p.0 has.told
-        (joins_or_refused plan.code_words (placed_modules s.loaded) clean.absent.unplaced clean.placed has.fault
-        clean.joins (subst
-        (λ (m : Module). IsJoinFault plan.code_words (placed_modules s.loaded) m has.fault) one has.stands))
+        (joins_or_refused plan.code_words (placed_modules s.loaded) (placed_modules (live_in s)) clean.absent.unplaced
+        clean.placed has.fault clean.joins
+        (subst
+        (λ (m : Module). IsJoinFault plan.code_words (placed_modules s.loaded) (placed_modules (live_in s)) m has.fault)
+        one has.stands))
 
   module _ (sound : All IsSoundModule modules) (opening : JournalState) (old : Stage)
       (holds : Holds plan modules opening old) where

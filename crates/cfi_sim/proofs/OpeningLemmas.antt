@@ -30,6 +30,7 @@ use Rattle.cfi_sim.specs.inner.Standing.{Whole, IsUnderWay, whole_at}
 use Rattle.cfi_sim.proofs.GoLemmas.{all_sound}
 use Rattle.cfi_sim.proofs.journal.StartLemmas.{can, start_holds}
 use Rattle.cfi_unit.specs.declared.fill.Fill.{Fill}
+use Rattle.cfi_valid.specs.Journal.{members_of}
 use Rattle.cfi_valid.specs.Loaded.{LoadedModule, placed_modules, start_fills, Left}
 use Rattle.cfi_word.specs.declared.lists.Image.{Image}
 use Rattle.cfi_world.specs.Premises.{CanOpen}
@@ -103,7 +104,7 @@ module _ (plan : Plan) (modules : List Module) (is : IsPlan plan) (named : lengt
       events = 0;
     }
 
-    fills_same : fills ≡ start_fills Left loaded
+    fills_same : fills ≡ start_fills Left (members_of stage_at.state)
     fills_same =
         fills_are ∙ ap (λ (ms : List Placed). fills_of ms) (sym (start_places plan modules starts_can r all))
 

@@ -27,7 +27,7 @@ use Rattle.cfi_sim.proofs.LinesOnce.{lines_once, stuck_never}
 use Rattle.cfi_sim.proofs.journal.StartLemmas.{are, start_holds}
 use Rattle.cfi_text.specs.Lines.{numbered_lines}
 use Rattle.cfi_valid.specs.Guests.{GuestBegins}
-use Rattle.cfi_valid.specs.Journal.{JournalState}
+use Rattle.cfi_valid.specs.Journal.{JournalState, members_of}
 use Rattle.cfi_valid.specs.Loaded.{placed_modules, start_fills, Left, module_line_of}
 use Rattle.cfi_valid.proofs.EntryLemmas.{begins_once}
 use Rattle.cfi_valid.proofs.JournalLemmas.{opening_once}
@@ -44,7 +44,7 @@ module _ (plan : Plan) (s : JournalState) (number : ℕ) where
       let entry = name_same p.entry q.entry (sym p.named ∙ q.named) in
       let address = begins_once plan s.loaded q.entry p.address q.address
       (subst (λ (name : List ℕ). GuestBegins plan s.loaded name p.address) entry p.begins) q.begins in
-      p.is ∙ ap (λ (at : ℕ). raw_opened number at (start_fills Left s.loaded)) address ∙ sym q.is
+      p.is ∙ ap (λ (at : ℕ). raw_opened number at (start_fills Left (members_of s))) address ∙ sym q.is
 
 module _ (plan : Plan) (modules : List Module) (is : IsPlan plan) (sound : All IsSoundModule modules) (a b : Stage)
     (p : IsStart plan modules a) (q : IsStart plan modules b) where

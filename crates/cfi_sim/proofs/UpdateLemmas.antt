@@ -11,7 +11,9 @@ use Rattle.cfi_plan.specs.declared.journal.JournalLine.TheVariants as lines
 use Rattle.cfi_plan.specs.declared.journal.Who.TheVariants.{Script}
 use Rattle.cfi_plan.specs.declared.journal.ModuleLine.{ModuleLine}
 use Rattle.cfi_modules.specs.Order.{Joins}
-use Rattle.cfi_modules.specs.Series.{CanRejoin, Series}
+use Rattle.cfi_modules.specs.Series.{AreAllLive, CanRejoin, JoinsTo}
+use Rattle.cfi_modules.proofs.LiveLemmas.{all_live_in, all_live_more}
+use Rattle.cfi_aux.specs.declared.placed.Placed.{Placed}
 use Rattle.cfi_sim.specs.declared.aim.Aim.{Aim}
 use Rattle.cfi_sim.specs.declared.limits.TheConstants.{MAX_EVENTS}
 use Rattle.cfi_sim.specs.declared.pending.Pending.{Pending}
@@ -22,18 +24,20 @@ use Rattle.cfi_sim.specs.Reach.{OfUpdate}
 use Rattle.cfi_sim.specs.Stage.{Stage, IsMade, after_event, loaded_as}
 use Rattle.cfi_sim.specs.Stands.{AimFits, LoadFits}
 use Rattle.cfi_ledger.specs.declared.force.Force.{Force}
-use Rattle.cfi_ledger.specs.Force.{with_load}
+use Rattle.cfi_ledger.specs.Force.{with_change}
 use Rattle.cfi_ledger.specs.Journal.{asked_by}
 use Rattle.cfi_ledger.proofs.JoinedLemmas.{joined_loaded, joined_roster}
-use Rattle.cfi_ledger.specs.Roster.{HasJoined, IsRosterOf, Offer, Roster, loaded_of, series_of, with_offer}
+use Rattle.cfi_ledger.specs.Roster.{HasJoined, IsRosterOf, Offer, Roster, live_placed, loaded_of, series_of, with_offer}
 use Rattle.cfi_sim.specs.inner.Making.{FitsAim, HasCome, HasMadeWithin, NotesBy, with_dropped, with_entered}
 use Rattle.cfi_sim.specs.inner.Pending.{aim_by, aim_of}
 use Rattle.cfi_sim.specs.inner.Standing.{Whole, RosterFits, IsUnderWay, PendingFits, whole_inside}
 use Rattle.cfi_sim.proofs.BeginLemmas.{under_after, updates_few, done_so}
 use Rattle.cfi_sim.proofs.journal.NotedLemmas.{not_spent, busy, update_counts}
-use Rattle.cfi_sim.proofs.LoadLemmas.{series_is}
-use Rattle.cfi_valid.specs.Journal.{IsClean}
+use Rattle.cfi_sim.proofs.LoadLemmas.{placed_is}
+use Rattle.cfi_sim.proofs.journal.ComingLemmas.{all_live}
+use Rattle.cfi_valid.specs.Journal.{live_in, IsClean}
 use Rattle.cfi_valid.specs.Loaded.{LoadedModule, placed_modules, planned_name}
+use Rattle.cfi_valid.specs.declared.retirement.Retirement.{Retirement}
 use Rattle.cfi_world.specs.declared.event.Event.TheVariants as events
 use Rattle.cfi_world.specs.declared.event.Turned.{Turned}
 use Rattle.cfi_world.specs.declared.event.Turned.TheVariants.{VersionsSpent}
@@ -48,9 +52,15 @@ module _ (a : Inside) (kept : RosterFits a) (x : Whole) (is : whole_inside a ≡
   its = subst (λ (w : Whole). PendingFits w (Load offer)) (sym is) offered
 
   -- it joins the roster
-  joins_here : Joins a.force.roster.code_words a.force.roster.placed its.unplaced offer.placed
+  joins_here : JoinsTo (series_of a.force.roster) its.unplaced offer.placed
   joins_here =
-      subst (λ (s : Series). Joins s.code_words s.placed its.unplaced offer.placed) (sym (series_is a kept)) its.joins
+      let r = a.force.roster in
+      let m = its.unplaced in
+      subst (λ (n : ℕ). Joins n r.placed (live_placed r) m offer.placed) (sym kept.roster_is.code_words_are)
+      (subst (λ (ms : List Placed). Joins a.plan.now.code_words r.placed ms m offer.placed)
+      (sym (all_live_in (series_of r) kept.live))
+      (subst (λ (ms : List Placed). Joins a.plan.now.code_words ms ms m offer.placed) (sym (placed_is a kept))
+      its.joins))
 
   pub rejoins : CanRejoin (series_of a.force.roster) offer.placed
   rejoins = (its.unplaced, its.sound, joins_here)
@@ -82,13 +92,24 @@ module _ (a : Inside) (kept : RosterFits a) (x : Whole) (is : whole_inside a ≡
         joined_roster offer.line.number name (a.force.policy + 1) its.unplaced a.force.roster r joined a.plan.now
         kept.roster_is refl
 
-    abbrev entered_with : List Entry → Option Aim → List LoadedModule → Whole
-    entered_with journal aim loaded =
+    -- none was retired
+    pub entered_live : AreAllLive (series_of r)
+    entered_live =
+        subst (λ (q : Roster). AreAllLive (series_of q)) (sym same)
+        (all_live_more (series_of a.force.roster) offer.placed kept.live)
+
+    abbrev entered_with : List Entry → Option Aim → List LoadedModule → List Retirement → Whole
+    entered_with journal aim loaded gone =
         let here = whole_inside a in
         record here {
           stage = record here.stage {
             journal = journal;
-            state = record { epoch = a.force.epoch + 1; policy = a.force.policy + 1; loaded = loaded };
+            state = record {
+              epoch = a.force.epoch + 1;
+              policy = a.force.policy + 1;
+              loaded = loaded;
+              retired = gone;
+            };
             aim = aim;
           };
         }
@@ -99,15 +120,17 @@ module _ (a : Inside) (kept : RosterFits a) (x : Whole) (is : whole_inside a ≡
 
     -- and the state is the next one
     pub has_entered : x.stage.aim ≡ None → (number : ℕ) → number ≡ offer.line.number → (f : Force)
-        → f ≡ with_load r f.journal a.force → f.journal.lines ≡ lines_with number
+        → f ≡ with_change r f.journal a.force → f.journal.lines ≡ lines_with number
         → whole_inside (record a { force = f }) ≡ with_entered offer x
     has_entered none number number_is f f_is lines_are =
         let loaded = loaded_of r.lines r.placed in
+        let gone = a.force.roster.retired in
         let aim_is = subst (λ (w : Whole). w.stage.aim ≡ None) (sym is) none in
         ap (λ (g : Force). whole_inside (record a { force = g })) f_is
-        ∙ ap (λ (es : List Entry). entered_with es (aim_of a.pending) loaded) (lines_are ∙ ap lines_with number_is)
-        ∙ ap (λ (o : Option Aim). entered_with (lines_with offer.line.number) o loaded) aim_is
-        ∙ ap (entered_with (lines_with offer.line.number) None) loaded_with
+        ∙ ap (λ (q : Roster). entered_with f.journal.lines (aim_of a.pending) loaded q.retired) same
+        ∙ ap (λ (es : List Entry). entered_with es (aim_of a.pending) loaded gone) (lines_are ∙ ap lines_with number_is)
+        ∙ ap (λ (o : Option Aim). entered_with (lines_with offer.line.number) o loaded gone) aim_is
+        ∙ ap (λ (ls : List LoadedModule). entered_with (lines_with offer.line.number) None ls gone) loaded_with
         ∙ ap (with_entered offer) is
 
 -- ---- what was under way is in force
@@ -144,14 +167,19 @@ module _ (a : Inside) (kept : RosterFits a) (x : Whole) (is : whole_inside a ≡
         sym held.is ∙ load_fits.clean.absent.is in
         cc
 
+    abbrev all : List Placed
+    all = placed_modules (whole_inside a).stage.state.loaded
+
     -- it has no fault, and is placed so
     abbrev clean_held : IsClean a.plan.now a.modules.now (whole_inside a).stage.state offer.line.number
     clean_held = record {
       absent = load_fits.clean.absent;
       placed = offer.placed;
       joins = subst
-          (λ (m : Module). Joins a.plan.now.code_words (placed_modules (whole_inside a).stage.state.loaded) m offer.placed)
-          held_module held.joins;
+          (λ (m : Module). Joins a.plan.now.code_words all (placed_modules (live_in (whole_inside a).stage.state)) m
+          offer.placed) held_module
+          (subst (λ (ls : List LoadedModule). Joins a.plan.now.code_words all (placed_modules ls) held.unplaced offer.placed)
+          (sym now_fits.live) held.joins);
     }
 
     pub load_comes : (y : Whole) → y ≡ with_entered offer (whole_inside a) → HasCome x y
@@ -171,6 +199,7 @@ pub fits_aim : (x : Whole) → IsUnderWay x → (w : World) (events : ℕ)
 fits_aim x under w events = record {
   fits = under.going.holds.stands.aim;
   few = under.going.holds.agrees.tables.few;
+  live = (let tables = under.going.holds.agrees.tables in all_live x.stage.state tables.stay tables.low);
 }
 
 -- ---- it is made

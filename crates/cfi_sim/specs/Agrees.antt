@@ -21,7 +21,7 @@ use Rattle.cfi_sim.specs.Reach.{WorldTells}
 use Rattle.cfi_sim.specs.declared.aim.Aim.{Aim}
 use Rattle.cfi_sim.specs.declared.aim.Aim.TheVariants.{Loading, Refreshing}
 use Rattle.cfi_sim.specs.Stage.{Stage}
-use Rattle.cfi_valid.specs.Journal.{JournalState, IsClean}
+use Rattle.cfi_valid.specs.Journal.{JournalState, IsClean, members_of}
 use Rattle.cfi_valid.specs.Loaded.{LoadedModule, placed_modules}
 use Rattle.cfi_world.specs.Worlds.{IsWorld}
 
@@ -75,7 +75,9 @@ pub record TablesAgree (plan : Plan) (modules : List Module) (state : JournalSta
   pub apart : NumbersAreApart state.loaded
   pub low : AllByRecursion (λ (l : LoadedModule). l.policy ≤ state.policy) state.loaded
   pub few : state.policy ≤ length state.loaded
-  pub entries : (number : ℕ) → number ≤ in_force t → IsPolicyOf plan.code_words state.loaded (entry_at t number)
+  pub stay : state.retired ≡ []
+  pub entries : (number : ℕ) → number ≤ in_force t
+      → IsPolicyOf plan.code_words (members_of state) (entry_at t number)
   pub aims : HasComingEntry plan modules state (entry_at t (in_force t)) aim (coming t)
 
 -- ---- the guests

@@ -21,8 +21,7 @@ use Rattle.cfi_modules.specs.Image.{IsOrderedImage}
 use Rattle.cfi_sim.specs.declared.found.Found.{Found}
 use Rattle.cfi_sim.specs.declared.found.Found.TheVariants.{Unknown, Functionless, Opened, Unloaded}
 use Rattle.cfi_sim.specs.declared.limits.TheConstants.{NOT_LOADED}
-use Rattle.cfi_valid.specs.Joining.{HasNoFault}
-use Rattle.cfi_valid.specs.Journal.{JournalState, LineLeads}
+use Rattle.cfi_valid.specs.Journal.{JournalState, LineLeads, IsClean, members_of}
 use Rattle.cfi_valid.specs.Loaded.{LoadedModule, placed_modules, fills_between, Left}
 use Rattle.cfi_valid.specs.Log.{HasFunctionAt, HasNoFunction}
 use Rattle.cfi_valid.specs.Replay.{given_by}
@@ -65,7 +64,7 @@ found_reply Unloaded policy fills = reply_of 0 NOT_LOADED policy []
 -- the data is that which came with policies above the one up to which the guest has data; no cell is filled
 abbrev pub reply_by : JournalState → State → Found → Reply
 reply_by state s found =
-    found_reply found state.policy (fills_between Left (given_by s.log) state.policy state.loaded)
+    found_reply found state.policy (fills_between Left (given_by s.log) state.policy (members_of state))
 
 -- an open that is to be answered is so in the event in which its guest parks
 pub record IsAnswered (plan : Plan) (state : JournalState) (old new : World) (guest number : ℕ) : Type 0 where
@@ -132,9 +131,15 @@ TellsLoad (lines.LoadPlace asked fault) number = asked ≡ number
 TellsLoad (lines.LoadVerify asked fault place) number = asked ≡ number
 TellsLoad (lines.LoadVersions asked guest quiet) number = ⊥
 TellsLoad (lines.LoadEpochs asked) number = ⊥
+TellsLoad (lines.LoadRetired asked) number = ⊥
 TellsLoad (lines.RefreshOk epoch) number = ⊥
 TellsLoad (lines.RefreshVersions guest quiet) number = ⊥
 TellsLoad lines.RefreshEpochs number = ⊥
+TellsLoad (lines.RetireOk asked epoch policy) number = ⊥
+TellsLoad (lines.RetireNotLive asked) number = ⊥
+TellsLoad (lines.RetireInUse asked user) number = ⊥
+TellsLoad (lines.RetireVersions asked guest quiet) number = ⊥
+TellsLoad (lines.RetireEpochs asked) number = ⊥
 
 -- the journal has such a line more, which is legal
 pub record IsToldLoad (plan : Plan) (modules : List Module) (number : ℕ) (old new : Stage) : Type 0 where
@@ -145,7 +150,7 @@ pub record IsToldLoad (plan : Plan) (modules : List Module) (number : ℕ) (old 
 
 -- or the module has no fault, and an update to the image of all begins
 pub record IsBegunLoad (plan : Plan) (modules : List Module) (number : ℕ) (old new : Stage) : Type 0 where
-  pub clean : HasNoFault plan.code_words modules old.state.loaded number
+  pub clean : IsClean plan modules old.state number
   pub image : Image
   pub of_all : (let all = placed_modules old.state.loaded ++ clean.placed ∷ [] in
       IsImage (DirectEdge all) all plan.code_words image)

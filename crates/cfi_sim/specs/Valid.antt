@@ -18,7 +18,7 @@ use Rattle.cfi_sim.specs.Schedule.{ScheduleMakes}
 use Rattle.cfi_sim.specs.Stage.{Stage}
 use Rattle.cfi_valid.specs.Course.{Course, IsCourse}
 use Rattle.cfi_valid.specs.Guests.{GuestBegins}
-use Rattle.cfi_valid.specs.Journal.{JournalState, IsOpeningState}
+use Rattle.cfi_valid.specs.Journal.{JournalState, IsOpeningState, members_of}
 use Rattle.cfi_valid.specs.Loaded.{placed_modules, start_fills, Left, module_line_of}
 use Rattle.cfi_valid.specs.Log.{HoldsInSpan, HasNoFunction, Why, NoModule, NoFunction, Unlogged, why_of, FitsCauses}
 use Rattle.cfi_valid.specs.Parts.{HasReplay, FitsSteps}
@@ -34,7 +34,7 @@ pub record IsGuestAt (plan : Plan) (state : JournalState) (number : ℕ) (r : Ra
   pub named : slice_get plan.guests number ≡ Some entry
   pub address : ℕ
   pub begins : GuestBegins plan state.loaded entry address
-  pub is : r ≡ raw_opened number address (start_fills Left state.loaded)
+  pub is : r ≡ raw_opened number address (start_fills Left (members_of state))
 
 -- the stage before the first line; which numbers the image's classes have is told, so that it is one
 pub record IsStart (plan : Plan) (modules : List Module) (s : Stage) : Type 0 where
@@ -55,7 +55,7 @@ pub record IsStart (plan : Plan) (modules : List Module) (s : Stage) : Type 0 wh
 -- the causes that an open can have: the plan lacks the module, the module has no function, or opens load nothing
 abbrev pub IsSimCause : Course → List Log → (at number cause : ℕ) → Why → Type 0
 IsSimCause c log at number cause NoModule = length c.plan.modules ≤ number
-IsSimCause c log at number cause NoFunction = HoldsInSpan c log at (λ loaded. HasNoFunction loaded number)
+IsSimCause c log at number cause NoFunction = HoldsInSpan c log at (λ loaded live. HasNoFunction live number)
 IsSimCause c log at number cause Unlogged = (number < length c.plan.modules) × (cause ≡ NOT_LOADED)
 IsSimCause c log at number cause why = ⊥
 

@@ -1,7 +1,8 @@
 //! A simulation under way.
 
 ghost use Rattle.std.specs.Prelude.{◌≡◌};
-ghost use Rattle.cfi_ledger.specs.Roster.{IsRosterOf};
+ghost use Rattle.cfi_ledger.specs.Roster.{IsRosterOf, series_of};
+ghost use Rattle.cfi_modules.specs.Series.{AreAllLive};
 ghost use Rattle.cfi_sim.specs.inner.Standing.{whole_at};
 
 use crate::pending::Pending;
@@ -50,7 +51,8 @@ impl<'a> Standing<'a> {
         world: World,
         roster: Roster,
     ) -> Standing<'a>
-        requires { IsRosterOf plan.now roster }
+        requires roster { IsRosterOf plan.now roster }
+        requires live { AreAllLive (series_of roster) }
         ensures { result ≡ whole_at plan.now modules.now world roster }
     {
         Standing {

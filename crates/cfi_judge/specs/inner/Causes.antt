@@ -3,7 +3,7 @@ use Rattle.std.specs.Prelude.{◌≡◌, ◌⊎◌, ◌<◌, ℕ, List, length, 
 use Rattle.cfi_unit.specs.declared.log.Log.{Log}
 use Rattle.cfi_unit.specs.declared.log.Log.TheVariants.{Cause}
 use Rattle.cfi_valid.specs.Course.{Course}
-use Rattle.cfi_valid.specs.Log.{IsCaused, Why, why_of, NoModule, ModulesFull, NotPlaced, NotVerified, VersionsSpent, EpochsSpent, NoFunction, Unlogged}
+use Rattle.cfi_valid.specs.Log.{IsCaused, Why, why_of, NoModule, ModulesFull, NotPlaced, NotVerified, VersionsSpent, EpochsSpent, NoFunction, Retired, Unlogged}
 
 -- all hold
 abbrev pub HasCauses : Course → (guest : ℕ) → List Log → Type 0
@@ -22,6 +22,7 @@ IsCausedApart c guest log at number VersionsSpent =
     (number < length c.plan.modules) ⊎ IsCaused c guest log at number VersionsSpent
 IsCausedApart c guest log at number EpochsSpent = IsCaused c guest log at number EpochsSpent
 IsCausedApart c guest log at number NoFunction = IsCaused c guest log at number NoFunction
+IsCausedApart c guest log at number Retired = IsCaused c guest log at number Retired
 IsCausedApart c guest log at number Unlogged = IsCaused c guest log at number Unlogged
 
 -- so does what the entry at a place says of one

@@ -7,7 +7,7 @@ use Rattle.cfi_judge.specs.inner.Reached.{IsReached}
 use Rattle.cfi_judge.specs.declared.trial.Trial.{Trial}
 use Rattle.cfi_valid.specs.Log as causes
 use Rattle.cfi_judge.specs.declared.trial.Why.{Why}
-use Rattle.cfi_judge.specs.declared.trial.Why.TheVariants.{NoModule, ModulesFull, NotPlaced, NotVerified, VersionsSpent, EpochsSpent, NoFunction, Unlogged}
+use Rattle.cfi_judge.specs.declared.trial.Why.TheVariants.{NoModule, ModulesFull, NotPlaced, NotVerified, VersionsSpent, EpochsSpent, NoFunction, Retired, Unlogged}
 
 -- the course that the report tells
 abbrev pub course_in : Trial → Course
@@ -28,4 +28,5 @@ meant NotVerified = causes.Why.NotVerified
 meant VersionsSpent = causes.Why.VersionsSpent
 meant EpochsSpent = causes.Why.EpochsSpent
 meant NoFunction = causes.Why.NoFunction
+meant Retired = causes.Why.Retired
 meant Unlogged = causes.Why.Unlogged

@@ -13,7 +13,7 @@ use Rattle.cfi_valid.specs.Log.{NeverFall}
 use Rattle.cfi_valid.specs.Replay.{singles, given_by, IsReplayed, Replays}
 use Rattle.cfi_word.specs.declared.lists.Labels.{Labels}
 use Rattle.cfi_labels.specs.Labels.{AreLabelsAt}
-use Rattle.cfi_replay.specs.Setting.{loaded_in}
+use Rattle.cfi_replay.specs.Setting.{members_in}
 use Rattle.cfi_replay.specs.declared.cursor.Cursor.{Cursor}
 use Rattle.cfi_replay.specs.declared.setting.Setting.{Setting}
 use Rattle.cfi_replay.specs.inner.Cursor.{HasAnswered, HasMark, IsSettled, Reach}
@@ -57,14 +57,14 @@ pub record HasTurned (s : Setting) (log : List Log) (cursor : Cursor) (old new :
   pub policy : ℕ
   pub policy_is : policy ≡ next_policy cursor.policy (slice_get log cursor.at)
   pub labels : Labels
-  pub labels_are : AreLabelsAt (loaded_in s) policy labels
+  pub labels_are : AreLabelsAt (members_in s) policy labels
   pub step : PlainStep
   pub turn : IsTurn s.code.now policy (has_one_class labels) old new step
 
 -- a unit is replayed, and the machine follows on
 pub record HasGone (s : Setting) (log : List Log) (old : PlainState) (cursor : Cursor) (new : PlainState)
     : Type 0 where
-  pub unit : IsReplayed Filled s.code.now (loaded_in s) log old.state new.state
+  pub unit : IsReplayed Filled s.code.now (members_in s) log old.state new.state
   pub follows : Follows s log cursor new
 
 -- ---- an open
@@ -79,7 +79,7 @@ pub record Asks (s : Setting) (log : List Log) (cursor : Cursor) (m : PlainState
 abbrev pub reply_by : Setting → Cursor → Log → Reply
 reply_by s cursor (Pick policy count) = reply_of 0 0 0 []
 reply_by s cursor (Open number address policy) =
-    reply_of address 0 policy (fills_between Filled cursor.given policy (loaded_in s))
+    reply_of address 0 policy (fills_between Filled cursor.given policy (members_in s))
 reply_by s cursor (Cause number cause) = reply_of 0 cause cursor.policy []
 
 -- how far it brings the guest
@@ -124,4 +124,4 @@ pub record IsStart (m : PlainState) : Type 0 where
 
 -- so many units lead from one state to another
 abbrev pub HasReplayed : Setting → List Log → (units : ℕ) → (start last : State) → Type 0
-HasReplayed s log units start last = Replays Filled s.code.now (loaded_in s) log units start last
+HasReplayed s log units start last = Replays Filled s.code.now (members_in s) log units start last

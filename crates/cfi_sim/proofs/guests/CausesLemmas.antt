@@ -9,9 +9,9 @@ use Rattle.cfi_model.specs.Log.{policy_after, last_policy}
 use Rattle.cfi_sim.specs.Valid.{IsSimCause, IsSimLogged}
 use Rattle.cfi_valid.specs.Course.{Course}
 use Rattle.cfi_valid.specs.Growth.{IsLater}
-use Rattle.cfi_valid.specs.Journal.{JournalState}
-use Rattle.cfi_valid.specs.Loaded.{LoadedModule, loaded_by}
-use Rattle.cfi_valid.specs.Log.{next_policy, HasFunctionAt, HasNoFunction, Why, NoModule, ModulesFull, NotPlaced, NotVerified, VersionsSpent, EpochsSpent, NoFunction, Unlogged, why_of}
+use Rattle.cfi_valid.specs.Journal.{JournalState, members_of}
+use Rattle.cfi_valid.specs.Loaded.{live_at}
+use Rattle.cfi_valid.specs.Log.{next_policy, HasFunctionAt, HasNoFunction, Why, NoModule, ModulesFull, NotPlaced, NotVerified, VersionsSpent, EpochsSpent, NoFunction, Retired, Unlogged, why_of}
 use Rattle.cfi_valid.proofs.EntryGrowth.{holds_closes, fits_grow}
 use Rattle.cfi_valid.proofs.LogGrowth.{holds_stays, fits_stays}
 
@@ -33,14 +33,14 @@ module _ (plan : Plan) (modules : List Module) (journal more : List Entry) (end 
         → IsSimCause new log at number cause why
     cause_stays at number cause NoModule caused = caused
     cause_stays at number cause NoFunction caused =
-        holds_stays old new later Before log logged at (λ (loaded : List LoadedModule). HasNoFunction loaded number)
-        caused
+        holds_stays old new later Before log logged at (λ loaded live. HasNoFunction live number) caused
     cause_stays at number cause Unlogged caused = caused
     cause_stays at number cause ModulesFull caused = absurd caused
     cause_stays at number cause NotPlaced caused = absurd caused
     cause_stays at number cause NotVerified caused = absurd caused
     cause_stays at number cause VersionsSpent caused = absurd caused
     cause_stays at number cause EpochsSpent caused = absurd caused
+    cause_stays at number cause Retired caused = absurd caused
 
     pub log_stays : IsSimLogged new log
     log_stays =
@@ -54,7 +54,7 @@ module _ (plan : Plan) (modules : List Module) (journal more : List Entry) (end 
         (most : policy_after (last_policy log) entry ≤ after.policy)
         (closes : end.policy ≤ next_policy after.policy (entry ∷ []))
         (opened : (number address policy : ℕ) → entry ≡ Open number address policy
-        → HasFunctionAt (loaded_by policy after.loaded) number address)
+        → HasFunctionAt (live_at policy (members_of after)) number address)
         (caused : (number cause : ℕ) → entry ≡ Cause number cause
         → IsSimCause new (log ++ entry ∷ []) (length log) number cause (why_of cause)) where
       abbrev all : List Log
@@ -65,13 +65,14 @@ module _ (plan : Plan) (modules : List Module) (journal more : List Entry) (end 
       cause_closes at number cause inside NoModule held = held
       cause_closes at number cause inside NoFunction held =
           holds_closes old new later Before log logged entry closes at inside
-          (λ (loaded : List LoadedModule). HasNoFunction loaded number) held
+          (λ loaded live. HasNoFunction live number) held
       cause_closes at number cause inside Unlogged held = held
       cause_closes at number cause inside ModulesFull held = absurd held
       cause_closes at number cause inside NotPlaced held = absurd held
       cause_closes at number cause inside NotVerified held = absurd held
       cause_closes at number cause inside VersionsSpent held = absurd held
       cause_closes at number cause inside EpochsSpent held = absurd held
+      cause_closes at number cause inside Retired held = absurd held
 
       pub log_grows : IsSimLogged new all
       log_grows =

@@ -8,7 +8,7 @@ use Rattle.cfi_sim.specs.declared.aim.Aim.{Aim}
 use Rattle.cfi_sim.specs.declared.aim.Aim.TheVariants.{Loading, Refreshing}
 use Rattle.cfi_sim.specs.Stage.{Stage, with_journal_line, IsMade, dropped, after_event}
 use Rattle.cfi_sim.proofs.guests.RunsLemmas.{same_later, runs_on}
-use Rattle.cfi_valid.specs.Loaded.{LoadedModule}
+use Rattle.cfi_sim.proofs.journal.MadeLemmas.{loaded_later}
 use Rattle.cfi_world.proofs.ForceLemmas.{turn_on}
 use Rattle.cfi_sim.specs.Agrees.{TablesAgree}
 use Rattle.cfi_sim.proofs.guests.TurnLemmas.{some_same, asks_number, AllRun, turn_runs}
@@ -36,7 +36,7 @@ use Rattle.cfi_world.specs.Turns.{nothing, seated, guest_turn, turn_of}
 use Rattle.cfi_aux.specs.Sound.{IsSoundModule}
 use Rattle.cfi_sim.proofs.guests.AnswerLemmas.{answer_runs}
 use Rattle.cfi_plan.specs.declared.journal.JournalLine.{JournalLine}
-use Rattle.cfi_valid.specs.Journal.{JournalState, IsClean}
+use Rattle.cfi_valid.specs.Journal.{JournalState, IsClean, with_loaded}
 use Rattle.cfi_sim.specs.Stands.{Holds}
 use Rattle.cfi_model.specs.Tables.{IsTables}
 use Rattle.cfi_sim.proofs.journal.SeatsLemmas.{set_one}
@@ -127,29 +127,10 @@ module _ (plan : Plan) (modules : List Module) (sound : All IsSoundModule module
     }
 
     load_later : (number : ℕ) (clean : IsClean plan modules old.state number) (new : JournalState)
-        → new ≡ (let policy = old.state.policy + 1 in
-        record {
-          epoch = old.state.epoch + 1;
-          policy = policy;
-          loaded = old.state.loaded ++ record { number = number; placed = clean.placed; policy = policy } ∷ [];
-        })
+        → new ≡ with_loaded number (old.state.epoch + 1) (old.state.policy + 1) clean.placed old.state
         → IsLater old.state new
     load_later number clean new same =
-        let policy = old.state.policy + 1 in
-        let l : LoadedModule = record { number = number; placed = clean.placed; policy = policy } in
-        let state : JournalState = record {
-          epoch = old.state.epoch + 1;
-          policy = policy;
-          loaded = old.state.loaded ++ l ∷ [];
-        } in
-        let later : IsLater old.state state = record {
-          more = l ∷ [];
-          is = refl;
-          above = (omega arith, tt);
-          policy = omega arith;
-          epoch = omega arith;
-        } in
-        subst (IsLater old.state) (sym same) later
+        subst (IsLater old.state) (sym same) (loaded_later number clean.placed old.state)
 
     refresh_later : (new : JournalState) → new ≡ record old.state { epoch = old.state.epoch + 1 }
         → IsLater old.state new
@@ -159,6 +140,9 @@ module _ (plan : Plan) (modules : List Module) (sound : All IsSoundModule module
           more = [];
           is = sym (append-nil old.state.loaded);
           above = tt;
+          gone = [];
+          retired_is = sym (append-nil old.state.retired);
+          after = tt;
           policy = omega arith;
           epoch = omega arith;
         } in

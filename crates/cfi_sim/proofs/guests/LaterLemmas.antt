@@ -13,11 +13,12 @@ use Rattle.cfi_model.specs.Service.{Reply, reply_of}
 use Rattle.cfi_model.specs.State.{State, register, displaced}
 use Rattle.cfi_model.proofs.StartLemmas.{begins_on}
 use Rattle.cfi_valid.specs.Growth.{IsLater}
-use Rattle.cfi_valid.specs.Journal.{JournalState}
+use Rattle.cfi_valid.specs.Journal.{JournalState, members_of}
 use Rattle.cfi_valid.specs.Loaded.{LoadedModule, placed_modules, Left}
 use Rattle.cfi_valid.specs.Log.{NeverFall}
 use Rattle.cfi_valid.specs.Replay.{singles, next_in, given_by, IsReplyOf, TakesPick, TakesAnswer, TakesFrom, IsReplayed, Replays}
-use Rattle.cfi_valid.proofs.GrowthLemmas.{fills_stay, loaded_stays}
+use Rattle.cfi_valid.proofs.GrowthLemmas.{fills_stay}
+use Rattle.cfi_valid.proofs.LiveLemmas.{live_stays}
 use Rattle.cfi_valid.proofs.SpanLemmas.{fall_least}
 use Rattle.cfi_graph.specs.Direct.{Allowed}
 
@@ -70,19 +71,19 @@ module _ (old new : JournalState) (later : IsLater old new) (code more : List �
       low_at old.policy (singles log) (length (singles s.log)) entry (low_singles old.policy log low) is
 
   picks_stay : (s : State) (slot target pick : ℕ) (allowed inside : Bool)
-      → TakesPick inside old.loaded (next_in log s) slot target pick allowed
-      → TakesPick inside new.loaded (next_in log s) slot target pick allowed
+      → TakesPick inside (members_of old) (next_in log s) slot target pick allowed
+      → TakesPick inside (members_of new) (next_in log s) slot target pick allowed
   picks_stay s slot target pick allowed true picks =
       record {
         is = picks.is;
         exact = subst
             (λ (ls : List LoadedModule). (allowed ≡ true) ↔ Allowed (placed_modules ls) slot target)
-            (sym (loaded_stays old new later pick (next_low s (Pick pick 1) picks.is))) picks.exact;
+            (sym (live_stays old new later pick (next_low s (Pick pick 1) picks.is))) picks.exact;
       }
   picks_stay s slot target pick allowed false picks = tt
 
   reply_stays : (s : State) (reply : Reply) (next : Option Log) → next_in log s ≡ next
-      → IsReplyOf Left old.loaded s next reply → IsReplyOf Left new.loaded s next reply
+      → IsReplyOf Left (members_of old) s next reply → IsReplyOf Left (members_of new) s next reply
   reply_stays s reply (Some (Open number address policy)) at told =
       told ∙ ap (reply_of address 0 policy)
       (sym (fills_stay old new later policy (next_low s (Open number address policy) at) Left (given_by s.log)))
@@ -91,14 +92,14 @@ module _ (old new : JournalState) (later : IsLater old new) (code more : List �
   reply_stays s reply None at told = absurd told
 
   answers_stay : (s : State) (reply : Reply) (asking : Bool)
-      → TakesAnswer Left asking old.loaded s (next_in log s) reply
-      → TakesAnswer Left asking new.loaded s (next_in log s) reply
+      → TakesAnswer Left asking (members_of old) s (next_in log s) reply
+      → TakesAnswer Left asking (members_of new) s (next_in log s) reply
   answers_stay s reply true told = reply_stays s reply (next_in log s) refl told
   answers_stay s reply false told = told
 
   takes_stay : (unit : CodeUnit) (s : State) (pick : ℕ) (allowed : Bool) (reply : Reply)
-      → TakesFrom Left old.loaded (next_in log s) unit s pick allowed reply
-      → TakesFrom Left new.loaded (next_in log s) unit s pick allowed reply
+      → TakesFrom Left (members_of old) (next_in log s) unit s pick allowed reply
+      → TakesFrom Left (members_of new) (next_in log s) unit s pick allowed reply
   takes_stay (units.Plain insn) s pick allowed reply takes = tt
   takes_stay (units.Load kind rd rs1 imm) s pick allowed reply takes = tt
   takes_stay (units.Store kind rs1 rs2 imm) s pick allowed reply takes = tt
@@ -109,8 +110,8 @@ module _ (old new : JournalState) (later : IsLater old new) (code more : List �
       picks_stay s slot target pick allowed (is_in_code target) takes
   takes_stay units.Service s pick allowed reply takes = answers_stay s reply (asks s) takes
 
-  unit_stays : (one next : State) → IsReplayed Left code old.loaded log one next
-      → IsReplayed Left more new.loaded log one next
+  unit_stays : (one next : State) → IsReplayed Left code (members_of old) log one next
+      → IsReplayed Left more (members_of new) log one next
   unit_stays one next p = record {
     going = p.going;
     unit = p.unit;
@@ -125,7 +126,7 @@ module _ (old new : JournalState) (later : IsLater old new) (code more : List �
     is = p.is;
   }
 
-  pub replay_stays : (count : ℕ) (start end : State) → Replays Left code old.loaded log count start end
-      → Replays Left more new.loaded log count start end
+  pub replay_stays : (count : ℕ) (start end : State) → Replays Left code (members_of old) log count start end
+      → Replays Left more (members_of new) log count start end
   replay_stays zero start end p = p
   replay_stays (suc count) start end p = (p.0, replay_stays count start p.0 p.1, unit_stays p.0 end p.2)

@@ -19,6 +19,7 @@ use Rattle.cfi_sim.specs.Valid.{IsStart}
 use Rattle.cfi_sim.proofs.guests.TurnLemmas.{AllRun}
 use Rattle.cfi_sim.proofs.guests.RunsLemmas.{HasRun, same_later}
 use Rattle.cfi_sim.proofs.journal.StartLemmas.{world, guest_start, none_later}
+use Rattle.cfi_valid.specs.Journal.{members_of}
 use Rattle.cfi_valid.specs.Loaded.{start_fills, Left}
 
 module _ (plan : Plan) (modules : List Module) (is : IsPlan plan) (sound : All IsSoundModule modules) (s : Stage)
@@ -45,16 +46,16 @@ module _ (plan : Plan) (modules : List Module) (is : IsPlan plan) (sound : All I
         starts = subst (λ (n : ℕ). IsStartIn (entry_at t n).image at.address) (back_is plan.first) start;
       } in
       let runs =
-      opened_runs (history_of t) (code_in_force t) number at.address (start_fills Left s.state.loaded) begins in
+      opened_runs (history_of t) (code_in_force t) number at.address (start_fills Left (members_of s.state)) begins in
       record {
         entry = at.entry;
         named = at.named;
         address = at.address;
         begins = at.begins;
         retries = 0;
-        shown = opened number at.address (start_fills Left s.state.loaded);
+        shown = opened number at.address (start_fills Left (members_of s.state));
         runs = inl (subst
-            (IsRunning (history_of t) (code_in_force t) 0 (opened number at.address (start_fills Left s.state.loaded)))
+            (IsRunning (history_of t) (code_in_force t) 0 (opened number at.address (start_fills Left (members_of s.state))))
             (sym at.is) runs);
         replayed = refl;
         picked = λ none. refl;

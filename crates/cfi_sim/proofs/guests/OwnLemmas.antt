@@ -12,7 +12,7 @@ use Rattle.cfi_sim.proofs.guests.SettledLemmas.{FitsGiven, is_settled}
 use Rattle.cfi_model.specs.Raw.{Raw}
 use Rattle.cfi_sim.proofs.guests.RunsLemmas.{HasRun}
 use Rattle.cfi_valid.specs.Replay.{given_by}
-use Rattle.cfi_valid.specs.Journal.{JournalState}
+use Rattle.cfi_valid.specs.Journal.{JournalState, members_of}
 use Rattle.cfi_valid.specs.Loaded.{placed_modules, loaded_by, live_at, start_fills, fills_between, Left}
 use Rattle.cfi_valid.proofs.LawLemmas.{step_unit}
 use Rattle.cfi_model.proofs.InForceLemmas.{history_is, force_within, epoch_within}
@@ -50,7 +50,7 @@ module _ (plan : Plan) (modules : List Module) (state : JournalState) (aim : Opt
   known = history_is t is
 
   -- each epoch has the modules of its policy
-  pub policies : HasPolicies (length code) state.loaded h
+  pub policies : HasPolicies (length code) (members_of state) h
   policies =
       let many = (is.closed (in_force t) (force_within t is)).1.classes.code_length in
       let size : plan.code_words ≡ length code = sym (many ∙ agrees.code_words) in
@@ -62,7 +62,7 @@ module _ (plan : Plan) (modules : List Module) (state : JournalState) (aim : Opt
         images = λ epoch seen.
             subst
             (λ (n : ℕ). IsLoadedImage n (placed_modules (loaded_by (h.policy epoch) state.loaded))
-            (placed_modules (live_at (h.policy epoch) state.loaded)) (h.image epoch)) size
+            (placed_modules (live_at (h.policy epoch) (members_of state))) (h.image epoch)) size
             (agrees.entries (epoch - t.first) (epoch_within t is epoch seen)).image;
       }
 
@@ -81,29 +81,29 @@ module _ (plan : Plan) (modules : List Module) (state : JournalState) (aim : Opt
     ready = (going_runs h code run.retries s r run.runs going).rests.ready
 
     -- an answer that succeeds brings what is due
-    due_by : (reply : Option Reply) → p.end.reply ≡ reply → BringsDue Left state.loaded s reply
+    due_by : (reply : Option Reply) → p.end.reply ≡ reply → BringsDue Left (members_of state) s reply
     due_by None came = tt
     due_by (Some reply) came = by_given given fits (p.brings reply came)
       where
         opens_due : (found : Found) → (reply_by state s found).cause ≡ 0
             → (reply_by state s found).fills
-            ≡ fills_between Left (given_by s.log) (reply_by state s found).policy state.loaded
+            ≡ fills_between Left (given_by s.log) (reply_by state s found).policy (members_of state)
         opens_due NoModuleFound free = absurd (omega (arith, free))
         opens_due Functionless free = absurd (omega (arith, free))
         opens_due (Opened address) free = refl
         opens_due Unloaded free = absurd (omega (arith, free))
 
         by_given : (g : Option Reply) → FitsGiven plan state mid s g → IsBrought g reply → reply.cause ≡ 0
-            → reply.fills ≡ fills_between Left (given_by s.log) reply.policy state.loaded
+            → reply.fills ≡ fills_between Left (given_by s.log) reply.policy (members_of state)
         by_given None none brought free = absurd (omega (arith, free, brought))
         by_given (Some answer) given_is brought free =
             let same : reply ≡ reply_by state s given_is.found = brought ∙ given_is.is in
-            subst (λ (x : Reply). x.fills ≡ fills_between Left (given_by s.log) x.policy state.loaded) (sym same)
+            subst (λ (x : Reply). x.fills ≡ fills_between Left (given_by s.log) x.policy (members_of state)) (sym same)
             (opens_due given_is.found (sym (ap (λ (x : Reply). x.cause) same) ∙ free))
 
-    runs_unit : RunsUnit Left code state.loaded s after
+    runs_unit : RunsUnit Left code (members_of state) s after
     runs_unit =
-        step_unit Left h code state.loaded p.end s after known policies ready p.step (due_by p.end.reply refl)
+        step_unit Left h code (members_of state) p.end s after known policies ready p.step (due_by p.end.reply refl)
 
     counts : after.units ≡ s.units + 1
     counts =
@@ -111,12 +111,12 @@ module _ (plan : Plan) (modules : List Module) (state : JournalState) (aim : Opt
         ∙ effect_units unit (h.policy p.step.epoch) (allows_at h p.step.epoch) p.step.reply s
 
     abbrev start : State
-    start = opened number run.address (start_fills Left state.loaded)
+    start = opened number run.address (start_fills Left (members_of state))
 
-    replayed : HasReplayed Left code state.loaded after.units start after
+    replayed : HasReplayed Left code (members_of state) after.units start after
     replayed =
-        subst (λ (n : ℕ). HasReplayed Left code state.loaded n start after) (sym counts)
-        (replay_goes_on Left code state.loaded s.units start s after run.replayed runs_unit)
+        subst (λ (n : ℕ). HasReplayed Left code (members_of state) n start after) (sym counts)
+        (replay_goes_on Left code (members_of state) s.units start s after run.replayed runs_unit)
 
     no_retry : pick_entries after.log ≡ 0 → more ≡ 0
     no_retry none = elim (cases_eq more run.retries) [

@@ -11,7 +11,7 @@ use Rattle.cfi_sim.proofs.guests.CausesLemmas.{log_stays, pick_pushed}
 use Rattle.cfi_valid.specs.Course.{Course}
 use Rattle.cfi_valid.specs.Growth.{IsLater}
 use Rattle.cfi_valid.specs.Journal.{JournalState}
-use Rattle.cfi_valid.specs.Log.{Why, NoModule, ModulesFull, NotPlaced, NotVerified, VersionsSpent, EpochsSpent, NoFunction, Unlogged, why_of}
+use Rattle.cfi_valid.specs.Log.{Why, NoModule, ModulesFull, NotPlaced, NotVerified, VersionsSpent, EpochsSpent, NoFunction, Retired, Unlogged, why_of}
 use Rattle.cfi_valid.proofs.PickGrowth.{span_same, fits_same, fits_picked}
 
 -- ---- two logs that differ in the count of the last pick
@@ -34,6 +34,7 @@ module _ (policy count other : ℕ) (c : Course) (front : List Log) where
   caused_same at number cause NotVerified held = absurd held
   caused_same at number cause VersionsSpent held = absurd held
   caused_same at number cause EpochsSpent held = absurd held
+  caused_same at number cause Retired held = absurd held
 
   logged_same : IsSimLogged c old → IsSimLogged c new
   logged_same logged =

@@ -1,5 +1,5 @@
 -- What holds of each guest at each stage: it has replayed its log, and what it has logged fits.
-use Rattle.std.proofs.Common.{◌≡◌, ℕ, ◌≤◌, ◌<◌, ◌++◌, Bool, true, false, List, [], ◌∷◌, length, Some, None, refl, sym, ◌∙◌, ap, subst, arith}
+use Rattle.std.proofs.Common.{◌≡◌, ℕ, ◌≤◌, ◌<◌, ◌++◌, Bool, true, false, List, [], ◌∷◌, length, Some, None, refl, sym, ◌∙◌, ap, subst, arith, append_assoc}
 use Rattle.std.specs.List.{AllByRecursion, slice_get}
 use Rattle.std.proofs.lemmas.List.{append-nil}
 use Rattle.cfi_aux.specs.declared.modules.Module.{Module}
@@ -20,37 +20,26 @@ use Rattle.cfi_valid.specs.Course.{Course}
 use Rattle.cfi_valid.specs.Growth.{IsLater}
 use Rattle.cfi_valid.specs.Guests.{EntersAt, GuestBegins}
 use Rattle.cfi_valid.specs.Bare.{is_bare_plan}
-use Rattle.cfi_valid.specs.Journal.{JournalState}
+use Rattle.cfi_valid.specs.Journal.{JournalState, members_of}
 use Rattle.cfi_valid.specs.Loaded.{LoadedModule, placed_modules, loaded_by, start_fills, Left}
+use Rattle.cfi_valid.specs.declared.retirement.Retirement.{Retirement}
 use Rattle.cfi_valid.specs.Replay.{Replays}
 use Rattle.cfi_valid.specs.Running.{HasReplayed}
 use Rattle.cfi_valid.proofs.GrowthLemmas.{loaded_stays, start_fills_stay}
+use Rattle.cfi_valid.proofs.LiveLemmas.{module_policy, retired_policy, above_append, above_less}
 use Rattle.cfi_modules.specs.Entry.{IsEntryIn}
 use Rattle.cfi_world.proofs.LaterLemmas.{guest_later}
 
 -- ---- later states
-
-above_append : (policy : ℕ) (xs ys : List LoadedModule) → AllByRecursion (λ (l : LoadedModule). policy < l.policy) xs
-    → AllByRecursion (λ (l : LoadedModule). policy < l.policy) ys
-    → AllByRecursion (λ (l : LoadedModule). policy < l.policy) (xs ++ ys)
-above_append policy [] ys p q = q
-above_append policy (x ∷ xs) ys p q = (p.0, above_append policy xs ys p.1 q)
-
-above_less : (policy less : ℕ) (xs : List LoadedModule) → less ≤ policy
-    → AllByRecursion (λ (l : LoadedModule). policy < l.policy) xs
-    → AllByRecursion (λ (l : LoadedModule). less < l.policy) xs
-above_less policy less [] within p = tt
-above_less policy less (x ∷ xs) within p = (omega (arith, within, p.0), above_less policy less xs within p.1)
-
-append_twice : (xs ys zs : List LoadedModule) → (xs ++ ys) ++ zs ≡ xs ++ (ys ++ zs)
-append_twice [] ys zs = refl
-append_twice (x ∷ xs) ys zs = ap (λ (ls : List LoadedModule). x ∷ ls) (append_twice xs ys zs)
 
 pub same_later : (s : JournalState) → IsLater s s
 same_later s = record {
   more = [];
   is = sym (append-nil s.loaded);
   above = tt;
+  gone = [];
+  retired_is = sym (append-nil s.retired);
+  after = tt;
   policy = omega arith;
   epoch = omega arith;
 }
@@ -58,8 +47,14 @@ same_later s = record {
 pub later_later : (a b c : JournalState) → IsLater a b → IsLater b c → IsLater a c
 later_later a b c p q = record {
   more = p.more ++ q.more;
-  is = q.is ∙ ap (λ (xs : List LoadedModule). xs ++ q.more) p.is ∙ append_twice a.loaded p.more q.more;
-  above = above_append a.policy p.more q.more p.above (above_less b.policy a.policy q.more p.policy q.above);
+  is = q.is ∙ ap (λ (xs : List LoadedModule). xs ++ q.more) p.is ∙ append_assoc a.loaded p.more q.more;
+  above = above_append LoadedModule module_policy a.policy p.more q.more p.above
+      (above_less LoadedModule module_policy b.policy a.policy q.more p.policy q.above);
+  gone = p.gone ++ q.gone;
+  retired_is = q.retired_is ∙ ap (λ (xs : List Retirement). xs ++ q.gone) p.retired_is
+      ∙ append_assoc a.retired p.gone q.gone;
+  after = above_append Retirement retired_policy a.policy p.gone q.gone p.after
+      (above_less Retirement retired_policy b.policy a.policy q.gone p.policy q.after);
   policy = omega (arith, p.policy, q.policy);
   epoch = omega (arith, p.epoch, q.epoch);
 }
@@ -79,8 +74,8 @@ module _ (plan : Plan) (modules : List Module) where
     pub retries : ℕ
     pub shown : State
     pub runs : IsGuest (history_of t) (code_in_force t) retries shown r
-    pub replayed : HasReplayed Left (code_in_force t) state.loaded shown.units
-        (opened number address (start_fills Left state.loaded)) shown
+    pub replayed : HasReplayed Left (code_in_force t) (members_of state) shown.units
+        (opened number address (start_fills Left (members_of state))) shown
     pub picked : pick_entries shown.log ≡ 0 → retries ≡ 0
     pub single : length t.entries ≡ 1 → retries ≡ 0
     pub settled : JournalState
@@ -114,10 +109,10 @@ module _ (plan : Plan) (modules : List Module) where
           shown = run.shown;
           runs = guest_later t u is then on run.retries run.shown r run.runs;
           replayed = subst
-              (λ (fs : List Fill). Replays Left (code_in_force u) new.loaded run.shown.log run.shown.units
+              (λ (fs : List Fill). Replays Left (code_in_force u) (members_of new) run.shown.log run.shown.units
               (opened number run.address fs) run.shown) (sym (start_fills_stay old new after Left))
               (replay_stays old new after (code_in_force t) (code_in_force u) (keeps t u is then on) run.shown.log low
-              run.shown.units (opened number run.address (start_fills Left old.loaded)) run.shown run.replayed);
+              run.shown.units (opened number run.address (start_fills Left (members_of old))) run.shown run.replayed);
           picked = run.picked;
           single = λ one. run.single (omega (arith, one, on.longer, is.some));
           settled = run.settled;

@@ -13,9 +13,9 @@ use Rattle.cfi_word.specs.declared.services.TheConstants as services
 use Rattle.cfi_model.specs.Effect.{effect, is_in_code}
 use Rattle.cfi_sim.specs.declared.limits.TheConstants.{NOT_LOADED}
 use Rattle.cfi_valid.specs.Log.{IsInSpan, HasFunctionAt, HasNoFunction, next_policy, why_of}
-use Rattle.cfi_valid.specs.Journal.{JournalState}
+use Rattle.cfi_valid.specs.Journal.{JournalState, members_of, live_in}
 use Rattle.cfi_valid.specs.Growth.{IsLater}
-use Rattle.cfi_valid.specs.Loaded.{LoadedModule, loaded_by}
+use Rattle.cfi_valid.specs.Loaded.{LoadedModule, live_at}
 use Rattle.cfi_unit.specs.declared.log.Log.{Log}
 use Rattle.cfi_model.proofs.InForceLemmas.{history_is, force_within, later_rises, epoch_within}
 use Rattle.cfi_model.specs.InForce.{in_force, history_of, code_in_force}
@@ -31,7 +31,7 @@ use Rattle.cfi_sim.specs.declared.aim.Aim.{Aim}
 use Rattle.cfi_unit.specs.declared.log.Log.TheVariants.{Open, Cause}
 use Rattle.cfi_model.specs.Log.{picked, last_policy}
 use Rattle.cfi_model.proofs.IdLemmas.{seen_of, tary_policy}
-use Rattle.cfi_sim.proofs.journal.ComingLemmas.{all_loaded}
+use Rattle.cfi_sim.proofs.journal.ComingLemmas.{all_live}
 use Rattle.cfi_unit.specs.declared.unit.Unit.TheVariants as units
 use Rattle.cfi_sim.specs.Valid.{IsSimCause, IsSimLogged}
 use Rattle.cfi_sim.proofs.guests.PicksLemmas.{picks_grow}
@@ -70,8 +70,8 @@ module _ (plan : Plan) (modules : List Module) (state : JournalState) (aim : Opt
       let rises = later_rises t is (epoch - t.first) (in_force t) (epoch_within t is epoch seen) (force_within t is) in
       omega (arith, rises, agrees.policy)
 
-  all_now : loaded_by state.policy state.loaded ≡ state.loaded
-  all_now = all_loaded state.policy state.loaded agrees.low
+  all_now : live_in state ≡ state.loaded
+  all_now = all_live state agrees.stay agrees.low
 
   -- ---- one unit more
 
@@ -174,7 +174,7 @@ module _ (plan : Plan) (modules : List Module) (state : JournalState) (aim : Opt
         let asked_is : argument s ≡ n = cc in
         let at : address ≡ a = cc in
         let policy : state.policy ≡ q = cc in
-        subst (λ (k : ℕ). HasFunctionAt (loaded_by k state.loaded) n a) policy
+        subst (λ (k : ℕ). HasFunctionAt (live_at k (members_of state)) n a) policy
         (subst (λ (ls : List LoadedModule). HasFunctionAt ls n a) (sym all_now)
         (subst (λ (m : ℕ). HasFunctionAt state.loaded m a) asked_is
         (subst (HasFunctionAt state.loaded (argument s)) at has))))

@@ -38,7 +38,7 @@ use Rattle.cfi_world.specs.Seats.{Seat, seat_of, seat_after, is_asking}
 use Rattle.cfi_world.proofs.RefineLemmas.{refines}
 use Rattle.cfi_world.specs.Turns.{nothing, seated, guest_turn, turn_of}
 use Rattle.cfi_aux.specs.Sound.{IsSoundModule}
-use Rattle.cfi_valid.specs.Journal.{JournalState}
+use Rattle.cfi_valid.specs.Journal.{JournalState, members_of}
 use Rattle.cfi_sim.specs.Stands.{Holds}
 use Rattle.cfi_sim.proofs.journal.SeatsLemmas.{set_one}
 
@@ -57,7 +57,7 @@ pub reply_same : (state : JournalState) (a b : State) (found : Found) → a.log 
     → reply_by state a found ≡ reply_by state b found
 reply_same state a b found same =
     ap
-    (λ (log : List Log). found_reply found state.policy (fills_between Left (given_by log) state.policy state.loaded))
+    (λ (log : List Log). found_reply found state.policy (fills_between Left (given_by log) state.policy (members_of state)))
     same
 
 -- a guest that waits has not stopped

@@ -46,7 +46,8 @@ use Rattle.cfi_word.specs.declared.limits.TheConstants.{MAX_EPOCH}
 use Rattle.cfi_world.proofs.StoringLemmas.{AreIdle, idle_is, force_newest}
 use Rattle.cfi_aux.specs.Sound.{IsSoundModule}
 use Rattle.cfi_plan.specs.declared.journal.JournalLine.{JournalLine}
-use Rattle.cfi_valid.specs.Journal.{JournalState, IsClean}
+use Rattle.cfi_valid.specs.Journal.{JournalState, members_of, live_in, IsClean}
+use Rattle.cfi_valid.proofs.LiveLemmas.{live_among_all}
 use Rattle.cfi_model.specs.World.{World}
 use Rattle.cfi_aux.specs.declared.placed.Placed.{Placed}
 use Rattle.cfi_graph.specs.Direct.{DirectEdge}
@@ -92,7 +93,9 @@ module _ (plan : Plan) (modules : List Module) (sound : All IsSoundModule module
         let there = clean.absent.is in
         let one : IsSoundModule m = subst IsSoundModule (get_or_from_slice_get modules number m m there)
         (sound number m (slice_get_within modules number m there)) in
-        series_more plan.code_words (placed_modules old.state.loaded) m clean.placed series one clean.joins
+        let live : List Placed = placed_modules (live_in old.state) in
+        series_more plan.code_words (placed_modules old.state.loaded) m clean.placed series one
+        (live, live_among_all old.state.policy (members_of old.state), clean.joins)
 
     pub comes : (number : ℕ) (clean : IsClean plan modules old.state number)
         → IsComing plan.code_words old.state number clean.placed

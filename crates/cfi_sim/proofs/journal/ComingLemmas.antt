@@ -10,7 +10,12 @@ use Rattle.cfi_world.specs.Updates.{next_store}
 use Rattle.cfi_modules.specs.Loaded.{AreLoaded, AreAmong, IsLoadedImage}
 use Rattle.cfi_model.specs.InForce.{in_force}
 use Rattle.cfi_policy.specs.Image.{IsImage}
-use Rattle.cfi_valid.specs.Loaded.{LoadedModule, placed_modules, loaded_by}
+use Rattle.cfi_valid.specs.Journal.{JournalState, members_of, live_in}
+use Rattle.cfi_valid.specs.Loaded.{LoadedModule, placed_modules, loaded_by, IsLoaded, Members, is_live, live_at}
+use Rattle.cfi_valid.specs.Retiring.{IsLiveAt}
+use Rattle.cfi_valid.specs.declared.retirement.Retirement.{Retirement}
+use Rattle.cfi_valid.proofs.LiveLemmas.{live_none}
+use Rattle.cfi_flow.proofs.Members.{from_filter}
 use Rattle.cfi_world.proofs.StoringLemmas.{agreeing_most}
 use Rattle.cfi_model.specs.declared.history.Entry.{Entry}
 use Rattle.cfi_model.specs.Words.{Tables, entry_at, newest, before}
@@ -73,6 +78,24 @@ all_loaded policy (l ∷ loaded) low =
     ap (λ (b : Bool). cond b (l ∷ loaded_by policy loaded) (loaded_by policy loaded)) (le-leb l.policy policy low.0)
     ∙ ap (λ (ls : List LoadedModule). l ∷ ls) (all_loaded policy loaded low.1)
 
+-- where none was retired, those that a policy finds loaded are live under it
+pub none_gone : (members : Members) → members.retired ≡ [] → (policy : ℕ)
+    → live_at policy members ≡ loaded_by policy members.loaded
+none_gone members stay policy =
+    ap (λ (gone : List Retirement). live_at policy (record { loaded = members.loaded; retired = gone })) stay
+    ∙ live_none policy members.loaded
+
+-- and so are all, under the policy in force
+pub all_live : (s : JournalState) → s.retired ≡ [] → AllByRecursion (λ (l : LoadedModule). l.policy ≤ s.policy) s.loaded
+    → live_in s ≡ s.loaded
+all_live s stay low = none_gone (members_of s) stay s.policy ∙ all_loaded s.policy s.loaded low
+
+-- one that is live is loaded
+pub live_is_loaded : (s : JournalState) (number : ℕ) → IsLiveAt s.policy (members_of s) number
+    → IsLoaded s.loaded number
+live_is_loaded s number live =
+    (live.0, (from_filter (is_live s.policy s.retired) s.loaded live.0 live.1).0, live.2)
+
 pub low_more : (policy : ℕ) (loaded : List LoadedModule) (l : LoadedModule) → l.policy ≡ policy + 1
     → AllByRecursion (λ (m : LoadedModule). m.policy ≤ policy) loaded
     → AllByRecursion (λ (m : LoadedModule). m.policy ≤ policy + 1) (loaded ++ l ∷ [])
@@ -83,15 +106,20 @@ pub among : (ms : List Placed) → AreAmong ms ms
 among ms = λ k d within. Contains-get_or ms k d within
 
 -- the image of all modules of a policy is that of the policy
-pub policy_of_all : (code_words : ℕ) (loaded : List LoadedModule) (e : Entry)
-    → AllByRecursion (λ (l : LoadedModule). l.policy ≤ e.policy) loaded → AreLoaded code_words (placed_modules loaded)
-    → IsImage (DirectEdge (placed_modules loaded)) (placed_modules loaded) code_words e.image
-    → IsPolicyOf code_words loaded e
-policy_of_all code_words loaded e low are image =
-    let all = all_loaded e.policy loaded low in
+pub policy_of_all : (code_words : ℕ) (members : Members) → members.retired ≡ [] → (e : Entry)
+    → AllByRecursion (λ (l : LoadedModule). l.policy ≤ e.policy) members.loaded
+    → AreLoaded code_words (placed_modules members.loaded)
+    → IsImage (DirectEdge (placed_modules members.loaded)) (placed_modules members.loaded) code_words e.image
+    → IsPolicyOf code_words members e
+policy_of_all code_words members stay e low are image =
+    let all : loaded_by e.policy members.loaded ≡ members.loaded = all_loaded e.policy members.loaded low in
+    let live : live_at e.policy members ≡ members.loaded = none_gone members stay e.policy ∙ all in
     record {
       modules = subst (λ (ls : List LoadedModule). AreLoaded code_words (placed_modules ls)) (sym all) are;
       image = subst
-          (λ (ls : List LoadedModule). IsLoadedImage code_words (placed_modules ls) (placed_modules ls) e.image)
-          (sym all) (among (placed_modules loaded), image);
+          (λ (ls : List LoadedModule). IsLoadedImage code_words (placed_modules ls)
+          (placed_modules (live_at e.policy members)) e.image) (sym all)
+          (subst
+          (λ (ls : List LoadedModule). IsLoadedImage code_words (placed_modules members.loaded) (placed_modules ls)
+          e.image) (sym live) (among (placed_modules members.loaded), image));
     }

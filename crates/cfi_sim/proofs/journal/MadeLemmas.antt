@@ -1,5 +1,5 @@
 -- What the EPOCH store of an update makes of the agreement of the tables with the journal.
-use Rattle.std.proofs.lemmas.List.{map-append}
+use Rattle.std.proofs.lemmas.List.{append-nil, map-append}
 use Rattle.std.proofs.lemmas.Option.{slice_get_within}
 use Rattle.std.proofs.lemmas.Bool.{cases_lt}
 use Rattle.std.specs.List.{AllByRecursion, slice_get}
@@ -7,7 +7,8 @@ use Rattle.std.proofs.Common.{◌≡◌, ◌≢◌, ℕ, ◌+◌, ◌≤◌, ◌
 use Rattle.cfi_modules.specs.Series.{IsSeries}
 use Rattle.cfi_ledger.specs.Policies.{IsPolicyOf}
 use Rattle.cfi_sim.specs.Agrees.{NumbersAreApart, IsEntryFor, coming, HasComingEntry, TablesAgree}
-use Rattle.cfi_valid.proofs.GrowthLemmas.{loaded_stays}
+use Rattle.cfi_valid.proofs.GrowthLemmas.{both_stay, loaded_stays}
+use Rattle.cfi_valid.proofs.JournalLemmas.{clean_once}
 use Rattle.cfi_model.specs.Tables.{IsTables}
 use Rattle.cfi_modules.specs.Loaded.{AreLoaded, IsLoadedImage}
 use Rattle.cfi_model.specs.InForce.{in_force}
@@ -21,12 +22,11 @@ use Rattle.cfi_sim.specs.declared.aim.Aim.TheVariants.{Loading, Refreshing}
 use Rattle.cfi_valid.specs.Loaded.{LoadedModule, placed_modules, loaded_by, live_at, IsLoaded}
 use Rattle.cfi_plan.specs.declared.plan.Plan.{Plan}
 use Rattle.cfi_model.proofs.InForceLemmas.{force_within, later_rises}
-use Rattle.cfi_modules.specs.Order.{Joins}
-use Rattle.cfi_valid.specs.Journal.{JournalState, IsClean, with_loaded}
+use Rattle.cfi_valid.specs.Journal.{JournalState, IsClean, with_loaded, members_of}
 use Rattle.cfi_model.specs.declared.history.Entry.{Entry}
 use Rattle.cfi_model.specs.Words.{Tables, entry_at, newest}
 use Rattle.cfi_graph.proofs.BoundLemmas.{contains_at}
-use Rattle.cfi_modules.proofs.OrderLemmas.{left, last, joins_once}
+use Rattle.cfi_modules.proofs.OrderLemmas.{left, last}
 use Rattle.cfi_aux.specs.declared.placed.Placed.{Placed}
 use Rattle.cfi_graph.specs.Direct.{DirectEdge}
 
@@ -44,14 +44,19 @@ pub record IsComing (code_words : ℕ) (state : JournalState) (number : ℕ) (pl
   pub series : IsSeries code_words (placed_modules state.loaded ++ placed ∷ [])
   pub absent : ¬ IsLoaded state.loaded number
 
--- a module without a fault is placed in one way
-pub clean_once : (plan : Plan) (modules : List Module) (state : JournalState) (number : ℕ)
-    (a b : IsClean plan modules state number) → a.placed ≡ b.placed
-clean_once plan modules state number a b =
-    let both : Some a.absent.unplaced ≡ Some b.absent.unplaced = sym a.absent.is ∙ b.absent.is in
-    let same : a.absent.unplaced ≡ b.absent.unplaced = cc in
-    joins_once plan.code_words (placed_modules state.loaded) b.absent.unplaced a.placed b.placed
-    (subst (λ (m : Module). Joins plan.code_words (placed_modules state.loaded) m a.placed) same a.joins) b.joins
+-- with a load the state is a later one
+pub loaded_later : (number : ℕ) (placed : Placed) (state : JournalState)
+    → IsLater state (loaded_state number placed state)
+loaded_later number placed state = record {
+  more = record { number = number; placed = placed; policy = state.policy + 1 } ∷ [];
+  is = refl;
+  above = (omega arith, tt);
+  gone = [];
+  retired_is = sym (append-nil state.retired);
+  after = tt;
+  policy = omega arith;
+  epoch = omega arith;
+}
 
 -- one number more, which is none of the others
 apart_more : (loaded : List LoadedModule) (l : LoadedModule) → ¬ IsLoaded loaded l.number → NumbersAreApart loaded
@@ -119,16 +124,17 @@ module _ (plan : Plan) (modules : List Module) (state : JournalState) (t : Table
       let refresh = fits Refreshing agrees asked goes same in
       let now = agrees.entries (in_force t) (omega arith) in
       let policy : (entry_at t (newest t)).policy ≡ state.policy = refresh.policy ∙ sym agrees.policy in
-      let kept : IsPolicyOf plan.code_words state.loaded (entry_at t (newest t)) = record {
+      let kept : IsPolicyOf plan.code_words (members_of state) (entry_at t (newest t)) = record {
         modules = subst (λ (p : ℕ). AreLoaded plan.code_words (placed_modules (loaded_by p state.loaded)))
             (sym refresh.policy) now.modules;
         image = subst
             (λ (p : ℕ). IsLoadedImage plan.code_words (placed_modules (loaded_by p state.loaded))
-            (placed_modules (live_at p state.loaded)) (entry_at t (newest t)).image) (sym refresh.policy)
+            (placed_modules (live_at p (members_of state))) (entry_at t (newest t)).image) (sym refresh.policy)
             (subst
             (IsLoadedImage plan.code_words
             (placed_modules (loaded_by (entry_at t (in_force t)).policy state.loaded))
-            (placed_modules (live_at (entry_at t (in_force t)).policy state.loaded))) (sym refresh.image) now.image);
+            (placed_modules (live_at (entry_at t (in_force t)).policy (members_of state)))) (sym refresh.image)
+            now.image);
       } in
       record {
         code_words = agrees.code_words;
@@ -140,8 +146,9 @@ module _ (plan : Plan) (modules : List Module) (state : JournalState) (t : Table
         apart = agrees.apart;
         low = agrees.low;
         few = agrees.few;
+        stay = agrees.stay;
         entries = either Refreshing agrees asked goes same
-            (λ (k : ℕ). IsPolicyOf plan.code_words state.loaded (entry_at t k)) agrees.entries kept;
+            (λ (k : ℕ). IsPolicyOf plan.code_words (members_of state) (entry_at t k)) agrees.entries kept;
         aims = nothing_comes Refreshing agrees asked goes same (refreshed_state state)
             (entry_at t (in_force after));
       }
@@ -162,32 +169,26 @@ module _ (plan : Plan) (modules : List Module) (state : JournalState) (t : Table
       IsImage (DirectEdge ms) ms plan.code_words (entry_at t (newest t)).image))
       (clean_once plan modules state number load.clean clean) load.image in
       let l : LoadedModule = record { number = number; placed = placed; policy = state.policy + 1 } in
-      let later : IsLater state state' = record {
-        more = l ∷ [];
-        is = refl;
-        above = (omega arith, tt);
-        policy = omega arith;
-        epoch = omega arith;
-      } in
+      let later : IsLater state state' = loaded_later number placed state in
       let low = low_more state.policy state.loaded l refl agrees.low in
       let all : placed_modules state'.loaded ≡ placed_modules state.loaded ++ placed ∷ [] =
       map-append (λ (m : LoadedModule). m.placed) state.loaded (l ∷ []) in
-      let new : IsPolicyOf plan.code_words state'.loaded (entry_at t (newest t)) =
-      policy_of_all plan.code_words state'.loaded (entry_at t (newest t))
+      let new : IsPolicyOf plan.code_words (members_of state') (entry_at t (newest t)) =
+      policy_of_all plan.code_words (members_of state') agrees.stay (entry_at t (newest t))
       (subst (λ (p : ℕ). AllByRecursion (λ (m : LoadedModule). m.policy ≤ p) state'.loaded) (sym load.policy) low)
       (subst (AreLoaded plan.code_words) (sym all)
       (are_loaded plan.code_words (placed_modules state.loaded ++ placed ∷ []) is_coming.series))
       (subst (λ (ms : List Placed). IsImage (DirectEdge ms) ms plan.code_words (entry_at t (newest t)).image) (sym all)
       image) in
-      let old : (k : ℕ) → k ≤ in_force t → IsPolicyOf plan.code_words state'.loaded (entry_at t k) = λ k most.
-      let kept = sym (loaded_stays state state' later (entry_at t k).policy
-      (policy_low aim agrees asked goes same k most)) in
+      let old : (k : ℕ) → k ≤ in_force t → IsPolicyOf plan.code_words (members_of state') (entry_at t k) = λ k most.
+      let low_k = policy_low aim agrees asked goes same k most in
       let before = agrees.entries k most in
       record {
-        modules = subst (λ (ls : List LoadedModule). AreLoaded plan.code_words (placed_modules ls)) kept before.modules;
-        image = subst
-            (λ (ls : List LoadedModule). IsLoadedImage plan.code_words (placed_modules ls) (placed_modules ls)
-            (entry_at t k).image) kept before.image;
+        modules = subst (λ (ls : List LoadedModule). AreLoaded plan.code_words (placed_modules ls))
+            (sym (loaded_stays state state' later (entry_at t k).policy low_k)) before.modules;
+        image = both_stay state state' later (entry_at t k).policy low_k
+            (λ loaded live. IsLoadedImage plan.code_words (placed_modules loaded) (placed_modules live)
+            (entry_at t k).image) before.image;
       } in
       record {
         code_words = agrees.code_words;
@@ -199,7 +200,8 @@ module _ (plan : Plan) (modules : List Module) (state : JournalState) (t : Table
         apart = apart_more state.loaded l is_coming.absent agrees.apart;
         low = low;
         few = omega (arith, agrees.few, length-append state.loaded (l ∷ []));
+        stay = agrees.stay;
         entries = either aim agrees asked goes same
-            (λ (k : ℕ). IsPolicyOf plan.code_words state'.loaded (entry_at t k)) old new;
+            (λ (k : ℕ). IsPolicyOf plan.code_words (members_of state') (entry_at t k)) old new;
         aims = nothing_comes aim agrees asked goes same state' (entry_at t (in_force after));
       }

@@ -37,6 +37,7 @@ use Rattle.cfi_sim.proofs.NumbersLemmas.{starts_apart}
 use Rattle.cfi_sim.proofs.journal.LegalLemmas.{start_stands}
 use Rattle.cfi_sim.proofs.journal.ComingLemmas.{idle_comes, all_loaded, among, policy_of_all}
 use Rattle.cfi_valid.specs.Guests.{EntersAt}
+use Rattle.cfi_valid.specs.Journal.{members_of}
 use Rattle.cfi_valid.specs.Loaded.{LoadedModule, placed_modules, loaded_by, start_fills, Left}
 use Rattle.cfi_valid.proofs.BareLemmas.{not_bare}
 use Rattle.cfi_valid.proofs.SeriesLemmas.{journal_series}
@@ -96,7 +97,7 @@ module _ (plan : Plan) (modules : List Module) (is : IsPlan plan) (sound : All I
   guest_opened : (number : ℕ) (r : Raw) → slice_get starts.guests number ≡ Some r → IsOpened image number r
   guest_opened number r there = record {
     entry = (starts.each number r there).address;
-    fills = start_fills Left loaded;
+    fills = start_fills Left (members_of s.state);
     inside = some_fills _ loaded (data_lies plan.code_words ms series);
     is = (starts.each number r there).is;
     start = guest_start number r there;
@@ -129,11 +130,12 @@ module _ (plan : Plan) (modules : List Module) (is : IsPlan plan) (sound : All I
   comes_none : coming t ≡ None
   comes_none = idle_comes t refl (force_newest t (omega arith))
 
-  entries : (number : ℕ) → number ≤ in_force t → IsPolicyOf plan.code_words loaded (entry_at t number)
+  entries : (number : ℕ) → number ≤ in_force t → IsPolicyOf plan.code_words (members_of s.state) (entry_at t number)
   entries number most =
       let first : 0 ≡ number = omega (arith, most, none_later) in
-      subst (λ (k : ℕ). IsPolicyOf plan.code_words loaded (entry_at t k)) first
-      (policy_of_all plan.code_words loaded (first_entry image) (low 0) are starts.of_starts)
+      subst (λ (k : ℕ). IsPolicyOf plan.code_words (members_of s.state) (entry_at t k)) first
+      (policy_of_all plan.code_words (members_of s.state) starts.opens.stay (first_entry image) (low 0) are
+      starts.of_starts)
 
   -- the numbers of start modules
   numbers_apart : NumbersAreApart loaded
@@ -150,6 +152,7 @@ module _ (plan : Plan) (modules : List Module) (is : IsPlan plan) (sound : All I
     apart = numbers_apart;
     low = low s.state.policy;
     few = omega (arith, starts.opens.policy);
+    stay = starts.opens.stay;
     entries = entries;
     aims = subst (λ (a : Option Aim). HasComingEntry plan modules s.state (entry_at t (in_force t)) a (coming t))
         (sym none)

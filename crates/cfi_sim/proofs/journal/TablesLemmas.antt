@@ -17,7 +17,7 @@ use Rattle.cfi_plan.specs.declared.plan.Plan.{Plan}
 use Rattle.cfi_model.proofs.InForceLemmas.{force_within}
 use Rattle.cfi_word.specs.declared.lists.Image.{Image}
 use Rattle.cfi_world.proofs.StoringLemmas.{AreIdle, force_newest, force_before}
-use Rattle.cfi_valid.specs.Journal.{JournalState, IsClean}
+use Rattle.cfi_valid.specs.Journal.{JournalState, IsClean, members_of}
 use Rattle.cfi_model.specs.declared.history.Entry.{Entry}
 use Rattle.cfi_model.specs.Words.{Tables, entry_at, newest}
 use Rattle.cfi_graph.specs.Direct.{DirectEdge}
@@ -56,6 +56,7 @@ module _ (plan : Plan) (modules : List Module) (state : JournalState) where
     apart = agrees.apart;
     low = agrees.low;
     few = agrees.few;
+    stay = agrees.stay;
     entries = agrees.entries;
     aims = entry;
   }
@@ -74,6 +75,7 @@ module _ (plan : Plan) (modules : List Module) (state : JournalState) where
     apart = agrees.apart;
     low = agrees.low;
     few = agrees.few;
+    stay = agrees.stay;
     entries = agrees.entries;
     aims = subst (HasComingEntry plan modules state (entry_at t (in_force t)) None)
         (sym (none_comes (in_force t) (newest t) (entry_at t (newest t)) (force_newest t all))) tt;
@@ -94,6 +96,7 @@ module _ (plan : Plan) (modules : List Module) (state : JournalState) where
     apart = agrees.apart;
     low = agrees.low;
     few = agrees.few;
+    stay = agrees.stay;
     entries = λ number most. agrees.entries number (omega (arith, most, same));
     aims = subst
         (λ (k : ℕ). HasComingEntry plan modules state (entry_at t k) aim
@@ -127,8 +130,9 @@ module _ (plan : Plan) (modules : List Module) (state : JournalState) where
         apart = agrees.apart;
         low = agrees.low;
         few = agrees.few;
+        stay = agrees.stay;
         entries = λ number most.
-            subst (IsPolicyOf plan.code_words state.loaded)
+            subst (IsPolicyOf plan.code_words (members_of state))
             (sym (updates.old_entry t is e asked number (omega (arith, most, same, within))))
             (agrees.entries number (omega (arith, most, same)));
         aims = subst (λ (x : Entry). HasComingEntry plan modules state x aim (coming u)) (sym now)

@@ -14,6 +14,7 @@ use Rattle.cfi_sim.specs.Stage.{Stage, with_journal_line, dropped, loaded_as, re
 use Rattle.cfi_sim.specs.Stands.{AimFits}
 use Rattle.cfi_sim.specs.inner.Standing.{Whole, HasDone}
 use Rattle.cfi_word.specs.declared.lists.Image.{Image}
+use Rattle.cfi_valid.specs.Journal.{live_in}
 use Rattle.cfi_world.specs.Premises.{HasRoom}
 use Rattle.cfi_world.specs.Updates.{is_idle}
 
@@ -89,10 +90,11 @@ pub record HasCome (old new : Whole) : Type 0 where
   pub made : IsMade old.plan old.modules old.stage.aim old.stage new.stage
   pub is : new ≡ record old { stage = new.stage }
 
--- what the update is for fits, as it did when it began
+-- what the update is for fits, as it did when it began, and none of the modules was retired
 pub record FitsAim (x : Whole) : Type 0 where
   pub fits : AimFits x.plan x.modules x.stage.state x.stage.aim
   pub few : x.stage.state.policy ≤ length x.stage.state.loaded
+  pub live : live_in x.stage.state ≡ x.stage.state.loaded
 
 -- an access in a phase has made it, or has not
 abbrev pub NotesBy : Phase → (old new : Whole) → Type 0

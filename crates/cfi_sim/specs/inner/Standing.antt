@@ -7,12 +7,12 @@ use Rattle.cfi_model.specs.World.{World}
 use Rattle.cfi_plan.specs.declared.plan.Plan.{Plan}
 use Rattle.cfi_plan.specs.Plan.{IsPlan}
 use Rattle.cfi_modules.specs.Order.{Joins}
-use Rattle.cfi_modules.specs.Series.{CanBeTaken}
+use Rattle.cfi_modules.specs.Series.{AreAllLive, CanBeTaken}
 use Rattle.cfi_sim.specs.Events.{IsAnswered, IsGuestEvent, IsReleaseEvent}
 use Rattle.cfi_sim.specs.Stage.{Stage}
 use Rattle.cfi_sim.specs.Stands.{IsGoing}
 use Rattle.cfi_ledger.specs.Force.{state_of}
-use Rattle.cfi_ledger.specs.Roster.{Offer, Roster, IsRosterOf, loaded_in_roster}
+use Rattle.cfi_ledger.specs.Roster.{Offer, Roster, IsRosterOf, loaded_in_roster, series_of}
 use Rattle.cfi_sim.specs.declared.pending.Pending.{Pending}
 use Rattle.cfi_sim.specs.declared.pending.Pending.TheVariants.{Load, Refresh}
 use Rattle.cfi_sim.specs.declared.standing.Standing.TheInside.{Inside}
@@ -50,7 +50,12 @@ whole_at plan modules world roster = record {
   stage = record {
     world = world;
     journal = [];
-    state = record { epoch = plan.first; policy = 0; loaded = loaded_in_roster roster };
+    state = record {
+      epoch = plan.first;
+      policy = 0;
+      loaded = loaded_in_roster roster;
+      retired = roster.retired;
+    };
     aim = None;
     events = 0;
   };
@@ -62,7 +67,7 @@ pub record IsOffered (plan : Plan) (modules : List Module) (loaded : List Loaded
   pub unplaced : Module
   pub is : slice_get modules number ≡ Some unplaced
   pub sound : IsSoundModule unplaced
-  pub joins : Joins plan.code_words (placed_modules loaded) unplaced offer.placed
+  pub joins : Joins plan.code_words (placed_modules loaded) (placed_modules loaded) unplaced offer.placed
   pub line_is : offer.line
       ≡ module_line_of plan.modules (record { number = number; placed = offer.placed; policy = policy + 1 })
 
@@ -75,9 +80,10 @@ FitsLoaded plan modules loaded policy Refresh = ⊤
 abbrev pub PendingFits : Whole → Pending → Type 0
 PendingFits x pending = FitsLoaded x.plan x.modules x.stage.state.loaded x.stage.state.policy pending
 
--- the roster is that of the plan, and what the update brings that is under way fits it
+-- the roster is that of the plan, none of it was retired, and what the update brings that is under way fits it
 pub record RosterFits (a : Inside) : Type 0 where
   pub roster_is : IsRosterOf a.plan.now a.force.roster
+  pub live : AreAllLive (series_of a.force.roster)
   pub pending : IfSome a.pending
       (FitsLoaded a.plan.now a.modules.now (loaded_in_roster a.force.roster) a.force.policy)
 

@@ -5,8 +5,7 @@ ghost use Rattle.cfi_sim.specs.Stage.{versions_line};
 ghost use Rattle.cfi_sim.specs.inner.Making.{with_dropped, with_entered, with_refreshed, AdvancesBy, FitsAim, HasCome, NotesBy};
 ghost use Rattle.cfi_sim.specs.declared.pending.Pending.TheVariants.{Load};
 ghost use Rattle.cfi_sim.specs.inner.Standing.{IsUnderWay, PendingFits};
-ghost use Rattle.cfi_valid.specs.declared.limits.TheConstants.{MAX_LOADED};
-ghost use Rattle.cfi_word.specs.declared.limits.TheConstants.{MAX_EPOCH};
+ghost use Rattle.cfi_word.specs.declared.limits.TheConstants.{MAX_EPOCH, MAX_POLICY};
 
 use crate::aim::Aim;
 use crate::limits::MAX_EVENTS;
@@ -50,7 +49,7 @@ impl<'a> Standing<'a> {
         requires none { self.old.stage.aim ≡ None }
         requires fits { PendingFits self.old (Load offer) }
         requires left { self.old.stage.state.epoch < MAX_EPOCH }
-        requires few { self.old.stage.state.policy < MAX_LOADED }
+        requires few { self.old.stage.state.policy < MAX_POLICY }
         ensures { OnOk result (self.new ≡ with_entered offer self.old) }
     {
         let number = offer.number();

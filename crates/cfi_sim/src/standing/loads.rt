@@ -55,7 +55,8 @@ impl<'a> Standing<'a> {
             (MakesBy (IsLoadEvent self.old.plan self.old.modules number) self.old self.new) }
     {
         match self.force.roster.prospect(number) {
-            Prospect::Again(_) => {
+            // None is retired here.
+            Prospect::Again(_) | Prospect::Retired(_) => {
                 let policy = self.force.policy;
                 self.tell(JournalLine::LoadAgain {
                     module: number,

@@ -7,7 +7,7 @@ use Rattle.cfi_judge.proofs.journal.journal_end.Goals as goal
 pub returns-clause-stands : goal.returns-clause-stands
 returns-clause-stands c =
     IfOk-weaker c.end_reached.result (IsReached c.args.plan.now c.args.modules.now) (StandsIn c.args.plan.now)
-    (λ end is. is.stands) c.end_reached.ensures.reached
+    (λ end is. is.kept.stands) c.end_reached.ensures.reached
 
 pub returns-clause-only : goal.returns-clause-only
 returns-clause-only c =

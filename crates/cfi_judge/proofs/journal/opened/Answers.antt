@@ -2,8 +2,12 @@ use Rattle.std.proofs.Common.{List, sym, subst}
 use Rattle.cfi_ledger.specs.Starts.{opened_state}
 use Rattle.cfi_judge.specs.declared.meeting.Meeting.{Meeting}
 use Rattle.cfi_judge.specs.inner.Rows.{LackLast}
-use Rattle.cfi_judge.proofs.ReachedLemmas.{opening_lacks, opening_reached, opening_state}
+use Rattle.cfi_judge.proofs.ReachedLemmas.{opening_lacks, opening_live, opening_reached, opening_state}
 use Rattle.cfi_judge.proofs.journal.opened.Goals as goal
+
+pub with_row-requires-clause-live : goal.with_row-requires-clause-live
+with_row-requires-clause-live c =
+    opening_live c.args.plan.now c.args.modules.now c.requires.can c.args.roster c.requires.started c.new.result
 
 pub with_row-requires-clause-near : goal.with_row-requires-clause-near
 with_row-requires-clause-near c =

@@ -1,40 +1,36 @@
-use Rattle.std.proofs.Common.{◌<◌, length, get_or, subst, arith}
-use Rattle.cfi_judge.specs.declared.told.Told.{Told}
-use Rattle.cfi_judge.specs.inner.Next.{Takes}
-use Rattle.cfi_judge.specs.inner.Told.{told_origin}
-use Rattle.cfi_judge.proofs.FollowLemmas.{drop_at, drop_here, none_follows, one_follows}
+use Rattle.std.proofs.Common.{[], subst}
+use Rattle.cfi_judge.specs.inner.Followed.{Comes}
+use Rattle.cfi_judge.proofs.FollowLemmas.{all_told, goes_nowhere, goes_on}
 use Rattle.cfi_judge.proofs.RefutesLemmas.{refuted}
 use Rattle.cfi_judge.proofs.modules.follow.Goals as goal
 
-abbrev none : Told
-none = record { number = 0; policy = 0 }
+pub loop-entry-init : goal.loop-entry-init
+loop-entry-init c = λ before next. record {
+  now = before;
+  left = [];
+  is_next = next;
+  rest = (λ all. all, λ rest. rest);
+}
 
--- a module that does not follow
+-- one that does not follow
 pub returns-in-None : goal.returns-in-None
 returns-in-None c = λ before next.
-    let lines = c.args.lines.now in
-    let told = c.args.told.now in
-    let n = c.loop-number.number in
-    let line = c.index-lines-number.result in
-    let within : n < length lines = omega (arith, c.loop-number-test.true, c.requires.same) in
-    let have = c.loop-number.invariant before next in
-    let never = subst (Takes c.args.plan.now c.args.modules.now have.placed line (told_origin (get_or told n none)))
-    c.in-None.is (c.in_ok-next.ensures have.placed have.is_next) in
-    refuted _ (none_follows c.args.plan.now c.args.modules.now before lines told n c.loop-number.next have line
-    (get_or told n none) (drop_here lines n line within c.index-lines-number.is)
-    (drop_at told n none c.loop-number-test.true) never)
+    let have = c.loop-entry.invariant before next in
+    refuted _
+    (goes_nowhere c.args.plan.now c.args.modules.now before c.args.lines.now c.args.journal.now c.loop-entry.entry-index
+    c.loop-entry.followed have _ c.loop-entry-test.true c.change_of.result c.change_of.ensures
+    (subst (Comes c.args.plan.now c.args.modules.now have.now have.left c.change_of.result c.args.lines.now
+    c.loop-entry.followed) c.in-None.is (c.in_ok-followed.ensures have.now have.left have.is_next)))
 
--- one that does
-pub loop-number-preserved : goal.loop-number-preserved
-loop-number-preserved c = λ before next.
-    let lines = c.args.lines.now in
-    let told = c.args.told.now in
-    let n = c.loop-number.number in
-    let line = c.index-lines-number.result in
-    let within : n < length lines = omega (arith, c.loop-number-test.true, c.requires.same) in
-    let have = c.loop-number.invariant before next in
-    let takes = subst (Takes c.args.plan.now c.args.modules.now have.placed line (told_origin (get_or told n none)))
-    c.in-Some.is (c.in_ok-next.ensures have.placed have.is_next) in
-    one_follows c.args.plan.now c.args.modules.now before lines told n c.loop-number.next have line
-    (get_or told n none) (drop_here lines n line within c.index-lines-number.is)
-    (drop_at told n none c.loop-number-test.true) takes.0 takes.1 c.in-Some.next takes.2
+pub loop-entry-preserved : goal.loop-entry-preserved
+loop-entry-preserved c = λ before next.
+    let have = c.loop-entry.invariant before next in
+    goes_on c.args.plan.now c.args.modules.now before c.args.lines.now c.args.journal.now c.loop-entry.entry-index
+    c.loop-entry.followed have _ c.loop-entry-test.true c.change_of.result c.change_of.ensures c.in-Some.followed
+    (subst (Comes c.args.plan.now c.args.modules.now have.now have.left c.change_of.result c.args.lines.now
+    c.loop-entry.followed) c.in-Some.is (c.in_ok-followed.ensures have.now have.left have.is_next))
+
+pub returns : goal.returns
+returns c = λ before next.
+    all_told c.args.plan.now c.args.modules.now before c.args.lines.now c.args.journal.now c.loop-entry.entry-index
+    c.loop-entry.followed (c.loop-entry.invariant before next) c.loop-entry-test.false

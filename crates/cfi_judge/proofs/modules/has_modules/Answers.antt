@@ -1,13 +1,11 @@
-use Rattle.std.proofs.Common.{◌-◌, List, length, map, take, drop, ap, subst, sym, ◌∙◌, arith}
+use Rattle.std.proofs.Common.{◌-◌, Bool, List, [], length, take, drop, ap, subst, sym, ◌∙◌, arith}
 use Rattle.std.specs.Prelude.{◌↔◌, IsTrue}
 use Rattle.std.proofs.lemmas.Result.{IfOk-weaker}
-use Rattle.cfi_aux.specs.declared.placed.Placed.{Placed}
+use Rattle.cfi_ledger.specs.Roster.{loaded_in_roster}
+use Rattle.cfi_plan.specs.declared.journal.Entry.{Entry}
 use Rattle.cfi_plan.specs.declared.journal.ModuleLine.{ModuleLine}
-use Rattle.cfi_valid.specs.Modules.{told_origins}
-use Rattle.cfi_judge.specs.declared.told.Told.{Told}
-use Rattle.cfi_judge.specs.inner.Next.{IsNext}
-use Rattle.cfi_judge.specs.inner.Told.{Follow, told_origin}
-use Rattle.cfi_judge.proofs.ModulesLemmas.{rest_told, starts_are}
+use Rattle.cfi_judge.specs.inner.Told.{Follow, changes_in}
+use Rattle.cfi_judge.proofs.ModulesLemmas.{rest_told, start_known, starts_are}
 use Rattle.cfi_judge.proofs.RefutesLemmas.{not_answered, refuted}
 use Rattle.cfi_judge.proofs.modules.has_modules.Goals as goal
 
@@ -21,6 +19,11 @@ returns-then-not-are_lines c =
     (ap (λ (ls : List ModuleLine). length ls) c.lines-count.ensures.value) (omega (arith, c.if-lines-count.false)) has
     ∙ sym c.lines.ensures.value))
 
+-- the start modules are of the plan
+pub behind-requires-clause-known : goal.behind-requires-clause-known
+behind-requires-clause-known c =
+    start_known c.args.plan.now c.args.modules.now c.args.report.now c.args.starts.now c.requires.started
+
 -- those behind them follow, or do not
 pub returns : goal.returns
 returns c =
@@ -29,14 +32,13 @@ returns c =
     let starts = c.args.starts.now in
     let lines = c.as_slice-lines.result.now in
     let count = length c.lines-count.result.now in
-    let next = subst (λ (ps : List Placed). IsNext plan.code_words ps c.in_ok-next.next) c.modules.ensures.value
-    c.in_ok-next.ensures in
-    let told = map told_origin c.deref.result.now in
-    IfOk-weaker c.follow.result
-    (λ is. IsTrue is ↔ Follow plan ms starts.placed (take (length lines - count) (drop count lines)) told) _
-    (rest_told plan ms c.args.report.now starts c.requires.started lines c.as_slice-lines.ensures count
+    let rest : List ModuleLine = take (length lines - count) (drop count lines) in
+    let told : List Entry → Bool → Type 0 =
+    λ journal is. IsTrue is ↔ Follow plan ms (loaded_in_roster starts) [] (changes_in journal) rest in
+    IfOk-weaker c.follow.result (told c.as_slice.result.now) _
+    (λ is follows.
+    rest_told plan ms c.args.report.now starts c.requires.started lines c.as_slice-lines.ensures count
     (ap (λ (ls : List ModuleLine). length ls) c.lines-count.ensures.value) (omega (arith, c.if-lines-count.false))
-    (c.are_lines.ensures.0 c.if-not-are_lines.false ∙ c.lines.ensures.value) told
-    (ap (λ (ts : List Told). map told_origin ts) c.deref.ensures.value ∙ c.in_ok-told.ensures
-    ∙ ap told_origins c.as_slice.ensures))
-    (c.follow.ensures starts.placed next)
+    (c.are_lines.ensures.0 c.if-not-are_lines.false ∙ c.lines.ensures.value) is
+    (subst (λ (journal : List Entry). told journal is) c.as_slice.ensures follows))
+    (c.follow.ensures (loaded_in_roster starts) c.in_ok-next.ensures)

@@ -1,5 +1,6 @@
 use Rattle.std.proofs.Common.{◌+◌, List, sym, subst, ◌∙◌}
 use Rattle.cfi_ledger.specs.Roster.{Roster, loaded_in_roster}
+use Rattle.cfi_judge.specs.inner.Meets.{HasLive}
 use Rattle.cfi_judge.specs.inner.Rows.{IsMeeting}
 use Rattle.cfi_judge.specs.declared.meeting.Meeting.{Meeting}
 use Rattle.cfi_judge.proofs.RowLemmas.{IsRowTo, row_more}
@@ -10,11 +11,15 @@ loop-number-preserved c =
     let r = c.args.roster.now in
     let ms = c.args.modules.now in
     let number = c.loop-number.number in
-    let meets = subst (λ (x : Roster). IsMeeting x.code_words ms (loaded_in_roster x) number c.in_ok-met.field-0)
-    c.loop-number.invariant.0 c.in_ok-met.ensures.ok in (
-      c.in_ok-met.ensures.same ∙ c.loop-number.invariant.0,
-      subst (λ (row : List Meeting). IsRowTo r.code_words ms (loaded_in_roster r) (number + 1) row)
+    let same = c.loop-number.invariant.same in
+    record {
+      same = c.in_ok-met.ensures.same ∙ same;
+      row = λ live has.
+          let meets = c.in_ok-met.ensures.ok live (subst (λ (x : Roster). HasLive x live) (sym same) has) in
+          subst (λ (row : List Meeting). IsRowTo r.code_words ms (loaded_in_roster r) live (number + 1) row)
           (sym c.in_ok-push.ensures.items)
-          (row_more r.code_words ms (loaded_in_roster r) number c.loop-number.row.items c.loop-number.invariant.1
-          c.in_ok-met.field-0 meets),
-    )
+          (row_more r.code_words ms (loaded_in_roster r) live number c.loop-number.row.items
+          (c.loop-number.invariant.row live has) c.in_ok-met.field-0
+          (subst (λ (x : Roster). IsMeeting x.code_words ms (loaded_in_roster x) live number c.in_ok-met.field-0) same
+          meets));
+    }

@@ -1,5 +1,5 @@
 use Rattle.std.proofs.Common.{◌≡◌, refl, false, rules}
-use Rattle.cfi_replay.specs.Setting.{loaded_in}
+use Rattle.cfi_replay.specs.Setting.{members_in}
 use Rattle.cfi_replay.proofs.RunLemmas.{stuck_for_good}
 use Rattle.cfi_replay.proofs.StartLemmas.{starts_follow}
 use Rattle.cfi_replay.proofs.parts.follow.Goals as goal
@@ -16,5 +16,6 @@ pub returns-then-not-go-clause-none : goal.returns-then-not-go-clause-none
 returns-then-not-go-clause-none c = λ last all.
     let s = c.args.setting.now in
     let no_result : c.go.result ≡ false = search rules in
-    stuck_for_good s.code.now (loaded_in s) c.args.log.now c.loop-turn._turn c.args.units c.args.start.state
-    c.loop-turn.machine.state last c.loop-turn.invariant.replayed (c.go.ensures.stuck no_result) c.loop-turn-test.true all
+    stuck_for_good s.code.now (members_in s) c.args.log.now c.loop-turn._turn c.args.units c.args.start.state
+    c.loop-turn.machine.state last c.loop-turn.invariant.replayed (c.go.ensures.stuck no_result) c.loop-turn-test.true
+    all

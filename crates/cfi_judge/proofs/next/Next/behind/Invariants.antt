@@ -1,7 +1,8 @@
-use Rattle.std.proofs.Common.{take}
+use Rattle.std.proofs.Common.{[], take}
+use Rattle.cfi_ledger.specs.Roster.{loaded_in_roster}
 use Rattle.cfi_judge.specs.inner.Next.{IsNext}
 use Rattle.cfi_judge.proofs.next.Next.behind.Given as goal
 
--- the place is behind those so far
-abbrev pub invariant-loop-number : goal.invariant-loop-number
-invariant-loop-number l = IsNext l.code_words (take l.number l.placed) l.next
+-- the place behind the modules so far
+abbrev pub invariant-loop-at : goal.invariant-loop-at
+invariant-loop-at l = IsNext l.code_words l.count (take l.at (loaded_in_roster l.starts)) [] l.next

@@ -1,5 +1,6 @@
 use Rattle.std.proofs.Common.{arith}
 use Rattle.cfi_judge.specs.Reached.{state_of}
+use Rattle.cfi_judge.proofs.ReachedLemmas.{all_found}
 use Rattle.cfi_judge.proofs.TrialLemmas.{spent_told}
 use Rattle.cfi_judge.proofs.RefutesLemmas.{not_answered, refuted}
 use Rattle.cfi_judge.proofs.trial.Trial.is_spent.Goals as goal
@@ -18,5 +19,6 @@ pub returns : goal.returns
 returns c = λ guest log at risen span.
     let j = c.args.self.now in
     spent_told j.plan.now.code_words j.modules.now (state_of j.end.now) j.end.now.rows.items c.requires.reached.rows
-    c.requires.reached.all c.args.number log risen at (c.is_last_epoch.ensures.0 c.if-not-is_last_epoch.false)
+    (all_found j.plan.now (state_of j.end.now) c.requires.reached.policies) c.args.number log risen at
+    (c.is_last_epoch.ensures.0 c.if-not-is_last_epoch.false)
     c.args.span.most span.most (omega (arith, c.if-span-force.false)) c.has_met.result c.has_met.ensures

@@ -1,4 +1,4 @@
-use Rattle.std.proofs.Common.{◌≡◌, ◌≤◌, List, length, Some, None, refl, sym, subst, ◌∙◌}
+use Rattle.std.proofs.Common.{◌≤◌, List, length, refl, sym, subst, ◌∙◌}
 use Rattle.std.proofs.lemmas.Result.{err_from_is_err_and}
 use Rattle.cfi_report.specs.declared.report.GuestPart.{GuestPart}
 use Rattle.cfi_judge.specs.Reached.{state_of}

@@ -1,9 +1,9 @@
 use Rattle.std.proofs.Common.{◌+◌, List, length, get_or, refl, sym, ap, subst, ◌∙◌, arith}
 use Rattle.std.proofs.lemmas.Option.{slice_get_read}
 use Rattle.cfi_aux.specs.declared.modules.Module.{Module}
-use Rattle.cfi_modules.specs.Order.{IsJoinFault}
+use Rattle.cfi_modules.specs.Series.{IsRefusedBy}
 use Rattle.cfi_valid.specs.Loaded.{planned_name}
-use Rattle.cfi_ledger.specs.Roster.{HasJoined, IsBookOfRoster, Roster}
+use Rattle.cfi_ledger.specs.Roster.{HasJoined, IsBookOfRoster, Roster, series_of}
 use Rattle.cfi_ledger.proofs.JoinedLemmas.{entrant_joined}
 use Rattle.cfi_ledger.proofs.books.Books.prepare.Goals as goal
 
@@ -41,6 +41,6 @@ returns-in-Err-clause-fault c =
       is = slice_get_read b.modules (length b.modules) c.args.number m refl
           (omega (arith, c.requires.known, c.requires.can.count))
           (c.index-as_slice-number.is ∙ ap (λ (ms : List Module). get_or ms c.args.number m) c.as_slice.ensures);
-      why = subst (λ (r : Roster). IsJoinFault r.code_words r.placed m c.in-Err.unjoined.fault)
+      why = subst (λ (r : Roster). IsRefusedBy (series_of r) m c.in-Err.unjoined.fault)
           c.replace-roster.ensures.value c.in-Err.ensures.fault;
     }

@@ -3,7 +3,7 @@ use Rattle.cfi_aux.specs.declared.placed.Placed.{Placed}
 use Rattle.cfi_modules.specs.Fills.{fills_of}
 use Rattle.cfi_modules.specs.Series.{Series, without_last}
 use Rattle.cfi_ledger.specs.Roster.{Candidate}
-use Rattle.cfi_ledger.proofs.JoinedLemmas.{roster_by}
+use Rattle.cfi_ledger.proofs.JoinedLemmas.{roster_by, roster_with}
 use Rattle.cfi_ledger.proofs.RosterLemmas.{init_listed, init_fills}
 use Rattle.cfi_ledger.proofs.candidate.Candidate.discard.Goals as goal
 
@@ -26,11 +26,7 @@ returns c =
     let a = c.self.inside in
     let placed = a.prepared.placed in
     let listed = init_listed (length a.lines.items) (length placed) placed c.self.invariant.many refl in
-    ap (roster_by a.lines.items a.fills.items) c.discard.ensures
-    ∙ ap (λ (n : ℕ). record {
-      code_words = a.prepared.code_words;
-      lines = a.lines.items;
-      placed = (without_last a.prepared).placed;
-      cells = drop n a.fills.items;
-    }) (sym listed)
+    ap (roster_by a.lines.items a.retired.items a.fills.items) c.discard.ensures
+    ∙ ap (λ (n : ℕ). roster_with a.lines.items a.retired.items (drop n a.fills.items) (without_last a.prepared))
+    (sym listed)
     ∙ ap (λ (x : Candidate). x.before) c.self.view_is

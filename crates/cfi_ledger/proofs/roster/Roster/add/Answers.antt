@@ -4,7 +4,7 @@ use Rattle.cfi_aux.specs.declared.placed.Placed.{Placed}
 use Rattle.cfi_plan.specs.declared.journal.ModuleLine.{ModuleLine}
 use Rattle.cfi_modules.specs.Series.{Series}
 use Rattle.cfi_ledger.specs.Roster.{HasJoined, line_by}
-use Rattle.cfi_ledger.proofs.JoinedLemmas.{roster_joined}
+use Rattle.cfi_ledger.proofs.JoinedLemmas.{roster_joined, roster_with}
 use Rattle.cfi_ledger.proofs.roster.Roster.add.Goals as goal
 
 -- the roster has the module as it joined the series
@@ -27,7 +27,8 @@ returns-clause-ok c =
     let lines_are : c.push_reserved.new.self.items ≡ c.self.inside.lines.items ++ line ∷ [] =
     c.push_reserved.ensures.items ∙ ap (λ (ls : List ModuleLine). ls ++ line ∷ []) c.taken.ensures.lines in
     let cells = drop (length new.placed) c.push_reserved-2.new.self.items in
+    let retired = c.self.inside.retired.items in
     subst (λ (ls : List ModuleLine). HasJoined entrant.number entrant.name.now entrant.policy c.args.unplaced.now
-    c.args.self (record { code_words = new.code_words; lines = ls; placed = new.placed; cells = cells })) (sym lines_are)
+    c.args.self (roster_with ls retired cells new)) (sym lines_are)
     (roster_joined entrant.number entrant.policy entrant.name.now c.args.unplaced.now s new c.self.inside.lines.items
-    (drop (length s.placed) c.self.inside.fills.items) c.args.self c.self.view_is joined line line_is cells)
+    retired (drop (length s.placed) c.self.inside.fills.items) c.args.self c.self.view_is joined line line_is cells)

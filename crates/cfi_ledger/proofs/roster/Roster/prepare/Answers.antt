@@ -5,7 +5,7 @@ use Rattle.cfi_plan.specs.declared.journal.ModuleLine.{ModuleLine}
 use Rattle.cfi_modules.specs.Series.{Series}
 use Rattle.cfi_unit.specs.declared.fill.Fill.{Fill}
 use Rattle.cfi_ledger.specs.Roster.{Roster, IsBookOfSeries, HasJoined, line_by, series_of}
-use Rattle.cfi_ledger.proofs.JoinedLemmas.{roster_back, roster_joined}
+use Rattle.cfi_ledger.proofs.JoinedLemmas.{roster_back, roster_joined, roster_with}
 use Rattle.cfi_ledger.proofs.roster.Roster.prepare.Goals as goal
 
 -- the book before is that of the series
@@ -31,16 +31,11 @@ returns-in-Ok-brought-clause-ok c =
     ∙ get_or_push s.placed one m c.len.result (sym count) in
     let line_is = c.in-Ok-brought.ensures.line ∙ ap (line_by entrant.number entrant.name.now entrant.policy) at in
     let cells = c.in-Ok-brought.cells.items in
+    let retired = c.self.inside.retired.items in
     subst (λ (ls : List ModuleLine). HasJoined entrant.number entrant.name.now entrant.policy c.args.unplaced.now
-    c.args.self (record {
-      code_words = new.code_words;
-      lines = ls ++ line ∷ [];
-      placed = new.placed;
-      cells = cells;
-    }))
-    (sym c.brought.ensures.lines)
+    c.args.self (roster_with (ls ++ line ∷ []) retired cells new)) (sym c.brought.ensures.lines)
     (roster_joined entrant.number entrant.policy entrant.name.now c.args.unplaced.now s new c.self.inside.lines.items
-    (drop (length s.placed) c.self.inside.fills.items) c.args.self c.self.view_is joined line line_is cells)
+    retired (drop (length s.placed) c.self.inside.fills.items) c.args.self c.self.view_is joined line line_is cells)
 
 -- and the others are as they were
 pub returns-in-Ok-brought-clause-before : goal.returns-in-Ok-brought-clause-before
@@ -54,5 +49,5 @@ returns-in-Ok-brought-clause-before c =
     ∙ ap (λ (n : ℕ). drop n fills)
     (ap (λ (ls : List ModuleLine). length ls) c.brought.ensures.lines ∙ c.self.invariant.0) in
     roster_back entrant.number entrant.policy entrant.name.now c.args.unplaced.now s c.in-Ok.prepared
-    c.self.inside.lines.items (drop (length s.placed) fills) c.args.self c.self.view_is c.in-Ok.ensures.ok lines
-    c.brought.ensures.lines (drop (length lines) c.brought.new.fills.items) kept
+    c.self.inside.lines.items c.self.inside.retired.items (drop (length s.placed) fills) c.args.self
+    c.self.view_is c.in-Ok.ensures.ok lines c.brought.ensures.lines (drop (length lines) c.brought.new.fills.items) kept

@@ -3,7 +3,7 @@ use Rattle.cfi_model.specs.Plain.{answered, with_fills}
 use Rattle.cfi_model.specs.Service.{reply_of}
 use Rattle.cfi_unit.specs.declared.fill.Fill.{Fill}
 use Rattle.cfi_valid.specs.Loaded.{cells_at, data_between}
-use Rattle.cfi_replay.specs.Setting.{loaded_in}
+use Rattle.cfi_replay.specs.Setting.{loaded_in, members_in}
 use Rattle.cfi_replay.proofs.FilledLemmas.{answered_more}
 use Rattle.cfi_replay.proofs.setting.Setting.open.Goals as goal
 
@@ -23,8 +23,8 @@ returns c =
     let brought = data_between c.args.given c.args.policy (loaded_in s) in
     c.fill.ensures
     ∙ ap (λ (fills : List Fill). with_fills fills c.answer.new.self) c.cells_at.ensures.is
-    ∙ ap (with_fills (cells_at c.args.policy (loaded_in s)))
+    ∙ ap (with_fills (cells_at c.args.policy (members_in s)))
     (c.answer.ensures
     ∙ ap (λ (fills : List Fill). answered (reply_of c.args.address 0 c.args.policy fills) old)
     c.data_between-fills.ensures.is)
-    ∙ sym (answered_more c.args.address c.args.policy brought (cells_at c.args.policy (loaded_in s)) old)
+    ∙ sym (answered_more c.args.address c.args.policy brought (cells_at c.args.policy (members_in s)) old)

@@ -1,5 +1,6 @@
-use Rattle.std.proofs.Common.{sym, ◌∙◌}
-use Rattle.cfi_sim.proofs.UpdateLemmas.{dropped_advance, noted_advance}
+use Rattle.std.proofs.Common.{◌+◌, sym, subst, ◌∙◌}
+use Rattle.cfi_sim.specs.inner.Standing.{IsUnderWay, whole_inside}
+use Rattle.cfi_sim.proofs.UpdateLemmas.{dropped_advance, fits_aim, noted_advance}
 use Rattle.cfi_sim.proofs.standing.Standing.advance.Goals as goal
 
 -- the update is not made
@@ -10,6 +11,12 @@ returns-in_ok-drop_update c =
     c.turn-turned.new.self c.turn-turned.result
     c.turn-turned.ensures c.in-VersionsSpent.guest c.in-VersionsSpent.quiet c.in-VersionsSpent.is
     c.drop_update.new.self c.in_ok-drop_update.ensures
+
+-- what it is for fits still
+pub note-requires : goal.note-requires
+note-requires c =
+    fits_aim (whole_inside c.self.inside) (subst IsUnderWay (sym c.self.view_is) c.requires.under_way)
+    c.turn-turned.new.self (c.self.inside.events + 1)
 
 -- it goes on
 pub returns-in_ok-note : goal.returns-in_ok-note

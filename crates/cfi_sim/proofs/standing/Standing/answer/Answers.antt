@@ -1,7 +1,7 @@
 use Rattle.std.proofs.Common.{◌≡◌, ℕ, ◌+◌, List, Some, All, slice_get, drop, sym, subst, ap, ◌∙◌}
 use Rattle.std.proofs.lemmas.List.Elements.{All-drop}
 use Rattle.std.proofs.lemmas.Option.{slice_get-get_or, slice_get_within}
-use Rattle.cfi_ledger.specs.Force.{starts_in}
+use Rattle.cfi_ledger.specs.Force.{count_by_policy}
 use Rattle.cfi_ledger.specs.Roster.{origin_of}
 use Rattle.cfi_ledger.specs.Policies.{HavePolicies}
 use Rattle.cfi_ledger.proofs.DueLemmas.{data_due}
@@ -73,7 +73,7 @@ returns c =
     let have : HavePolicies inside.plan.now x.stage.state =
     subst (λ (y : Whole). HavePolicies y.plan y.stage.state) (sym c.self.view_is) c.requires.policies in
     let f = inside.force in
-    let first = c.due_from-first.ensures ∙ ap (λ (log : List Log). starts_in f + given_by log) c.log.ensures.entries in
+    let first = c.due_from-first.ensures ∙ ap (λ (log : List Log). count_by_policy (given_by log) f.roster) c.log.ensures.entries in
     subst (λ (y : Whole). AnswersOpen y (record x { stage = record x.stage { world = new } }) c.args.guest c.args.number
     ) c.self.view_is
     (answers_open x c.args.guest c.args.number r seat found c.find-found.ensures c.answer-answer.result

@@ -6,5 +6,6 @@ use Rattle.cfi_sim.proofs.standing.Standing.begin.Goals as goal
 pub invariant_of-self-2 : goal.invariant_of-self-2
 invariant_of-self-2 c = record {
   roster_is = c.self.invariant.roster_is;
+  live = c.self.invariant.live;
   pending = subst (λ (w : Whole). PendingFits w c.args.pending) (sym c.self.view_is) c.requires.fits;
 }
