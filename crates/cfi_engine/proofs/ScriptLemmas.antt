@@ -22,9 +22,13 @@ use Rattle.cfi_loader.specs.Ledger.{Ledger, IsLedger}
 use Rattle.cfi_valid.specs.NumberedLine.{numbered_line}
 use Rattle.cfi_ledger.specs.Journal.{asked_by}
 use Rattle.cfi_loader.specs.Results.{fault_line, loaded_line, refused_refresh, HasLoaded, IsLoadFault, RefusesBy}
+use Rattle.cfi_loader.specs.Retirements.{retired_line, retire_fault_line, HasRetired, IsRetireFault, RefusesRetireBy}
 use Rattle.cfi_loader.specs.Told.{HasTold}
+use Rattle.cfi_loader.specs.declared.retire.Retired.{Retired as RetiredModule}
+use Rattle.cfi_loader.specs.declared.retire.RetireFault.{RetireFault}
+use Rattle.cfi_loader.specs.declared.retire.RetireFault.TheVariants as retires
 use Rattle.cfi_loader.specs.declared.fault.LoadFault.{LoadFault}
-use Rattle.cfi_loader.specs.declared.fault.LoadFault.TheVariants.{ModulesFull, Place, Verify, EpochsSpent, VersionsSpent, Memory}
+use Rattle.cfi_loader.specs.declared.fault.LoadFault.TheVariants.{Retired, ModulesFull, Place, Verify, EpochsSpent, VersionsSpent, Memory}
 use Rattle.cfi_loader.specs.declared.loaded.Loaded.{Loaded}
 use Rattle.cfi_modules.specs.Numbers.{place_numbers, verify_numbers}
 use Rattle.cfi_modules.specs.declared.numbers.FaultNumbers.{FaultNumbers}
@@ -32,7 +36,7 @@ use Rattle.cfi_modules.specs.declared.numbers.FaultNumbers.TheVariants as number
 use Rattle.cfi_tables.specs.Key.{Key}
 use Rattle.cfi_tables.specs.declared.fault.UpdateFault.{UpdateFault}
 use Rattle.cfi_tables.specs.declared.fault.UpdateFault.TheVariants as updates
-use Rattle.cfi_valid.specs.Script.{Call, Load, Refresh, call_of, calls_of, script_calls, made_by_script}
+use Rattle.cfi_valid.specs.Script.{Call, Load, Refresh, Retire, call_of, calls_of, script_calls, made_by_script}
 use Rattle.cfi_word.specs.declared.limits.TheConstants.{MAX_SCRIPT, MAX_REFRESHES}
 use Rattle.cfi_engine.specs.inner.Script.{HasMadeNext, Makes}
 
@@ -41,6 +45,7 @@ use Rattle.cfi_engine.specs.inner.Script.{HasMadeNext, Makes}
 -- of a line at most one more than its refreshes
 line_calls : (line : ScriptLine) → length (calls_of line) ≤ 1 + refreshes_of line
 line_calls (script.Load number) = omega arith
+line_calls (script.Retire number) = omega arith
 line_calls (script.Refresh count) = omega (arith, length-replicate count Refresh)
 
 calls_most : (lines : List ScriptLine) → length (script_calls lines) ≤ length lines + refreshes lines
@@ -64,13 +69,16 @@ script_fits k plan modules l is =
 
 -- ---- they name modules of the plan
 
-abbrev IsKnown : (modules : ℕ) → Call → Type 0
+abbrev pub IsKnown : (modules : ℕ) → Call → Type 0
 IsKnown modules (Load number) = number < modules
+IsKnown modules (Retire number) = number < modules
 IsKnown modules Refresh = Unit {0}
 
 line_known : (modules : ℕ) (line : ScriptLine) → IsScriptLine modules line → All (IsKnown modules) (calls_of line)
 line_known modules (script.Load number) known =
     All-cons (IsKnown modules) (Load number) [] known (All-nil (IsKnown modules))
+line_known modules (script.Retire number) known =
+    All-cons (IsKnown modules) (Retire number) [] known (All-nil (IsKnown modules))
 line_known modules (script.Refresh count) some = All-replicate (IsKnown modules) count Refresh tt
 
 all_known : (modules : ℕ) (lines : List ScriptLine) → All (IsScriptLine modules) lines
@@ -86,18 +94,18 @@ left_known modules [] left all = all
 left_known modules (call ∷ made) left all =
     left_known modules made left (All-tail (IsKnown modules) call (made ++ left) all)
 
--- the module whose load is due is one of the plan
-pub due_known : (k : Key) (plan : Plan) (modules : List Module) (l : Ledger) (number : ℕ) → IsLedger k plan modules l
-    → slice_get l.left 0 ≡ Some (Load number) → number < length plan.modules
-due_known k plan modules l number is due =
+-- the module that is due is one of the plan
+pub due_known : (k : Key) (plan : Plan) (modules : List Module) (l : Ledger) (call : Call) → IsLedger k plan modules l
+    → slice_get l.left 0 ≡ Some call → IsKnown (length plan.modules) call
+due_known k plan modules l call is due =
     let all = length l.course.plan.modules in
     let script = l.course.plan.script in
     let known = left_known all (made_by_script l.course.journal) l.left
     (subst (All (IsKnown all)) (sym is.script) (all_known all script is.can_start.script.lines)) in
-    let here : IsKnown all (Load number) =
-    subst (IsKnown all) (get_or_from_slice_get l.left 0 (Load number) Refresh due)
-    (known 0 Refresh (slice_get_within l.left 0 (Load number) due)) in
-    subst (λ (p : Plan). number < length p.modules) is.plan_is here
+    let here : IsKnown all call =
+    subst (IsKnown all) (get_or_from_slice_get l.left 0 call Refresh due)
+    (known 0 Refresh (slice_get_within l.left 0 call due)) in
+    subst (λ (p : Plan). IsKnown (length p.modules) call) is.plan_is here
 
 -- ---- what making one comes to
 
@@ -124,6 +132,7 @@ mapped_call number None = tt
 mapped_call number (Some fault) = numbered_call number fault
 
 fault_call : (number : ℕ) (fault : LoadFault) → IsOfLoad number (fault_line number fault)
+fault_call number Retired = refl
 fault_call number ModulesFull = refl
 fault_call number (Place fault) = mapped_call number (place_numbers fault)
 fault_call number (Verify fault) = mapped_call number (verify_numbers fault)
@@ -149,6 +158,38 @@ module _ (k : Key) (number : ℕ) (old new : Ledger) where
     told = ok.told;
   })
   load_makes (Err refusal) ok fault = by_line refusal (fault_line number refusal) (fault_call number refusal) fault
+
+-- and so it is with a retirement
+abbrev IsOfRetirement : (number : ℕ) → Option JournalLine → Type 0
+IsOfRetirement number None = Unit {0}
+IsOfRetirement number (Some line) = call_of line ≡ Retire number
+
+retire_fault_call : (number : ℕ) (fault : RetireFault) → IsOfRetirement number (retire_fault_line number fault)
+retire_fault_call number retires.NotLive = refl
+retire_fault_call number (retires.InUse user) = refl
+retire_fault_call number retires.EpochsSpent = refl
+retire_fault_call number (retires.VersionsSpent guest quiet) = refl
+retire_fault_call number retires.Memory = tt
+
+module _ (k : Key) (number : ℕ) (old new : Ledger) where
+  by_retire_line : (fault : RetireFault) (line : Option JournalLine) → IsOfRetirement number line
+      → RefusesRetireBy k fault line old new → Makes k (Retire number) old new
+  by_retire_line fault None of starved = inr starved.1
+  by_retire_line fault (Some line) of told =
+      inl (record { entry = asked_by Script line; by_script = refl; is = of; told = told })
+
+  pub retire_makes : (answer : Result RetiredModule RetireFault)
+      → IfOk answer (λ (retired : RetiredModule). HasRetired k number retired old new)
+      → IfErr answer (λ (fault : RetireFault). IsRetireFault k number fault old new)
+      → Makes k (Retire number) old new
+  retire_makes (Ok retired) ok fault = inl (record {
+    entry = asked_by Script (retired_line number retired);
+    by_script = refl;
+    is = refl;
+    told = ok.told;
+  })
+  retire_makes (Err refusal) ok fault =
+      by_retire_line refusal (retire_fault_line number refusal) (retire_fault_call number refusal) fault
 
 refused_call : (fault : UpdateFault) → call_of (refused_refresh fault) ≡ Refresh
 refused_call updates.EpochsSpent = refl

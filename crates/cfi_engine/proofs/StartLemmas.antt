@@ -38,8 +38,8 @@ use Rattle.cfi_tables.specs.declared.view.PassView.{PassView}
 use Rattle.cfi_unit.specs.declared.fill.Fill.{Fill}
 use Rattle.cfi_valid.specs.Bare.{is_bare_plan}
 use Rattle.cfi_valid.specs.Guests.{EntersAt, GuestBegins}
-use Rattle.cfi_valid.specs.Journal.{IsOpeningState, modules_at, starts_from}
-use Rattle.cfi_valid.specs.Loaded.{LoadedModule, placed_modules, loaded_by, live_at, Filled, cells_at, with_cells, start_fills}
+use Rattle.cfi_valid.specs.Journal.{IsOpeningState, members_of, modules_at, starts_from}
+use Rattle.cfi_valid.specs.Loaded.{LoadedModule, Members, placed_modules, loaded_by, live_at, Filled, cells_at, with_cells, start_fills}
 use Rattle.cfi_valid.proofs.SeriesLemmas.{journal_series}
 use Rattle.cfi_word.specs.declared.map.TheConstants.{FIRST_BASE}
 use Rattle.cfi_word.specs.declared.lists.Image.{Image}
@@ -86,13 +86,16 @@ words_some [] apart = absurd (apart refl)
 words_some (x ∷ xs) apart = omega arith
 
 text_some : (code_words : ℕ) (before : List Placed) (m : Module) (p : Placed) → IsSoundModule m
-    → Joins code_words before m p → 0 < length m.object.text
+    → Joins code_words before before m p → 0 < length m.object.text
 text_some code_words before m p sound joins =
     let f = fits m (room_after code_words before) (names_of before) p sound.object_sound.relocs joins.behind in
     omega (arith, f.words, words_some p.words joins.verified.1.laid.some)
 
 module _ (k : Key) (plan : Plan) (modules : List Module) (l : Ledger) (is : IsLedger k plan modules l)
     (opens : IsOpeningState plan modules l.course.end) where
+  abbrev members : Members
+  members = members_of l.course.end
+
   abbrev loaded : List LoadedModule
   loaded = l.course.end.loaded
 
@@ -124,24 +127,25 @@ module _ (k : Key) (plan : Plan) (modules : List Module) (l : Ledger) (is : IsLe
       subst (λ (policy : ℕ). AreLoaded words (placed_modules (loaded_by policy loaded))) policy_is
       last_is.is.modules
 
-  first_image : IsLoadedImage words first (placed_modules (live_at 0 loaded)) image
+  first_image : IsLoadedImage words first (placed_modules (live_at 0 members)) image
   first_image =
       subst
       (λ (policy : ℕ).
-      IsLoadedImage words (placed_modules (loaded_by policy loaded)) (placed_modules (live_at policy loaded)) image)
+      IsLoadedImage words (placed_modules (loaded_by policy loaded)) (placed_modules (live_at policy members)) image)
       policy_is last_is.is.image
 
   -- ---- an entry is a start of it
 
   named_start : (entry : List ℕ) (address : ℕ) → IsEntryIn first entry address → IsStartIn image address
   named_start entry address enters =
-      entry_start words first first_loaded (placed_modules (live_at 0 loaded)) image first_image (length first) entry
+      entry_start words first first_loaded (placed_modules (live_at 0 members)) image first_image (length first) entry
       address (subst (λ (ms : List Placed). IsEntryIn ms entry address) (sym (take-length first)) enters)
 
   all_first : loaded_by 0 loaded ≡ loaded
   all_first =
       starts_first l.course.plan l.course.end is.policies
-      ∙ take_all (starts l.course.plan.modules) loaded (omega (arith, is.policies.count, opens.policy))
+      ∙ take_all (starts l.course.plan.modules) loaded
+      (omega (arith, is.policies.count, opens.policy, ap length opens.stay))
 
   first_sound : (has : HasFirst plan modules) → IsSoundModule has.first
   first_sound has =
@@ -167,7 +171,7 @@ module _ (k : Key) (plan : Plan) (modules : List Module) (l : Ledger) (is : IsLe
       subst (λ (ls : List LoadedModule). Contains (placed_modules ls) one.0) (sym all_first)
       (contains_at (placed_modules loaded) 0 one.0 one.1) in
       first_start image _
-      (function_start words first first_loaded (placed_modules (live_at 0 loaded)) image first_image one.0 function.0
+      (function_start words first first_loaded (placed_modules (live_at 0 members)) image first_image one.0 function.0
       (record { placed = has_one; function = contains_at one.0.functions 0 function.0 function.1 }))
     where
       within : {X : Type 0} (xs : List X) (x : X) → slice_get xs 0 ≡ Some x → 0 < length xs
@@ -183,12 +187,12 @@ module _ (k : Key) (plan : Plan) (modules : List Module) (l : Ledger) (is : IsLe
 
   -- the data of all that is loaded, and behind it the cells
   abbrev pub given : List Fill
-  given = with_cells Filled l.course.end.policy loaded (fills_of (placed_modules loaded))
+  given = with_cells Filled l.course.end.policy members (fills_of (placed_modules loaded))
 
-  given_first : given ≡ start_fills Filled loaded
+  given_first : given ≡ start_fills Filled members
   given_first =
-      ap (λ (policy : ℕ). with_cells Filled policy loaded (fills_of (placed_modules loaded))) opens.policy
-      ∙ ap (λ (ls : List LoadedModule). with_cells Filled 0 loaded (fills_of (placed_modules ls))) (sym all_first)
+      ap (λ (policy : ℕ). with_cells Filled policy members (fills_of (placed_modules loaded))) opens.policy
+      ∙ ap (λ (ls : List LoadedModule). with_cells Filled 0 members (fills_of (placed_modules ls))) (sym all_first)
 
   -- it lies in private data
   pub given_lies : All LiesInData given
@@ -200,7 +204,8 @@ module _ (k : Key) (plan : Plan) (modules : List Module) (l : Ledger) (is : IsLe
       subst (λ (ls : List LoadedModule). All LiesInData (fills_of (placed_modules ls))) (sym all_first)
       (data_lies words (placed_modules loaded) series) in
       subst (All LiesInData) (sym given_first)
-      (All-append LiesInData (fills_of first) (cells_at 0 loaded) lies (cells_lie (entry_among first) first lies))
+      (All-append LiesInData (fills_of first) (cells_at 0 members) lies
+      (cells_lie (entry_among (placed_modules (live_at 0 members))) first lies))
 
   -- ---- a guest that is opened there, with a pass that is admitted
 

@@ -1,7 +1,7 @@
 //! The calls of a plan's script.
 
 ghost use Rattle.std.specs.Prelude.{◌≡◌, ◌⊎◌, ◌<◌, ◌^◌, true, false, Some, length, slice_get};
-ghost use Rattle.cfi_valid.specs.Script.{Load, Refresh, calls_of, script_calls};
+ghost use Rattle.cfi_valid.specs.Script.{Load, Refresh, Retire, calls_of, script_calls};
 ghost use Rattle.cfi_engine.specs.inner.Script.{HasMadeNext, IsScriptMade, Makes};
 
 use cfi_io::Gate;
@@ -15,7 +15,7 @@ fn calls_in_line(line: &ScriptLine) -> u32
     ensures { result ≡ length (calls_of line.now) }
 {
     match line {
-        ScriptLine::Load(_) => 1,
+        ScriptLine::Load(_) | ScriptLine::Retire(_) => 1,
         ScriptLine::Refresh(count) => *count,
     }
 }
@@ -41,6 +41,15 @@ fn make_load<N: LoaderName>(loader: &mut Loader<N>, tables: &Tables<N>, number: 
     drop(loader.load(tables, number));
 }
 
+// Makes the retirement that is due.
+fn make_retirement<N: LoaderName>(loader: &mut Loader<N>, tables: &Tables<N>, number: u32)
+    requires due { slice_get loader.old.left 0 ≡ Some (Retire number) }
+    requires known { number < length N.plan.modules }
+    ensures { Makes N.key (Retire number) loader.old loader.new }
+{
+    let _ = loader.retire(tables, number);
+}
+
 // Makes the refresh that is due.
 fn make_refresh<N: LoaderName>(loader: &mut Loader<N>, tables: &Tables<N>)
     requires { slice_get loader.old.left 0 ≡ Some Refresh }
@@ -59,6 +68,7 @@ pub(crate) fn make_next<N: LoaderName>(loader: &mut Loader<N>, tables: &Tables<N
     }
     match loader.due() {
         Some(Due::Load(number)) => make_load(loader, tables, number),
+        Some(Due::Retire(number)) => make_retirement(loader, tables, number),
         Some(Due::Refresh) => make_refresh(loader, tables),
         None => return false,
     }

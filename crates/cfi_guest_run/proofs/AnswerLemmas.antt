@@ -10,7 +10,7 @@ use Rattle.cfi_loader.specs.Passes.{reply_with}
 use Rattle.cfi_ledger.specs.Opens.{IsAddressOf}
 use Rattle.cfi_ledger.specs.Journal.{asked_by}
 use Rattle.cfi_loader.specs.Told.{HasTold}
-use Rattle.cfi_ledger.proofs.PolicyLemmas.{policies_below}
+use Rattle.cfi_ledger.proofs.PolicyLemmas.{policies_below, policies_left}
 use Rattle.cfi_model.specs.declared.act.Wait.TheVariants as waits
 use Rattle.cfi_model.specs.Data.{LiesInData}
 use Rattle.cfi_model.specs.Log.{last_policy, opens}
@@ -33,6 +33,7 @@ use Rattle.cfi_unit.specs.declared.log.Log.{Log}
 use Rattle.cfi_unit.specs.declared.log.Log.TheVariants.{Open, Cause}
 use Rattle.cfi_valid.specs.Course.{Course}
 use Rattle.cfi_valid.specs.Growth.{Continues, FitsEntry, IsLater}
+use Rattle.cfi_valid.specs.Journal.{live_in, members_of}
 use Rattle.cfi_valid.specs.Loaded.{LoadedModule, Filled, cells_at, data_between, fills_between, loaded_by, placed_modules}
 use Rattle.cfi_valid.specs.Log.{IsLogged}
 use Rattle.cfi_valid.specs.Replay.{given_by}
@@ -70,9 +71,10 @@ passed_lie passes loaded all =
 
 module _ (k : Key) (plan : Plan) (modules : List Module) (l : Ledger) (is : IsLedger k plan modules l) where
   pub policy_fits : l.course.end.policy ≤ MAX_POLICY
-  policy_fits = omega (arith, is.policies.count, is.policies.most)
+  policy_fits = omega (arith, policies_left l.course.plan l.course.end is.policies)
 
-  pub fills_lie : (given : ℕ) → All LiesInData (fills_between Filled given l.course.end.policy l.course.end.loaded)
+  pub fills_lie : (given : ℕ)
+      → All LiesInData (fills_between Filled given l.course.end.policy (members_of l.course.end))
   fills_lie given =
       let policy = l.course.end.policy in
       let loaded = l.course.end.loaded in
@@ -81,9 +83,9 @@ module _ (k : Key) (plan : Plan) (modules : List Module) (l : Ledger) (is : IsLe
       let series = journal_series l.course.plan l.course.modules l.course.journal l.course.end is.can_start.code_words
       sound is.course in
       let each = each_lies loaded (data_lies l.course.plan.code_words (placed_modules loaded) series) in
-      All-append LiesInData (data_between given policy loaded) (cells_at policy loaded)
+      All-append LiesInData (data_between given policy loaded) (cells_at policy (members_of l.course.end))
       (passed_lie (λ (m : LoadedModule). nat_lt given m.policy && nat_le m.policy policy) loaded each)
-      (cells_lie (entry_among found) found
+      (cells_lie (entry_among (placed_modules (live_in l.course.end))) found
       (passed_lie (λ (m : LoadedModule). nat_le m.policy policy) loaded each))
 
 -- what an answer makes of the log
@@ -167,9 +169,9 @@ module _ (k : Key) (plan : Plan) (modules : List Module) (p : PassView) (r : Raw
         known = λ free. absurd (some free);
       }) (λ free. absurd (some free))
 
-  -- ---- a module that is loaded
+  -- ---- a module that is live
 
-  pub opened : (address : ℕ) → IsAddressOf l.course.end.loaded (argument r.base) (Some address)
+  pub opened : (address : ℕ) → IsAddressOf (live_in l.course.end) (argument r.base) (Some address)
       → IsServed k plan modules n (serve_of r (reply_with l r.base.log (Some address)))
   opened address has =
       let reply = reply_with l r.base.log (Some address) in
@@ -191,7 +193,7 @@ module _ (k : Key) (plan : Plan) (modules : List Module) (p : PassView) (r : Raw
       })
       (λ free. record { most = omega arith; fills = refl })
 
-  pub opened_none : IsAddressOf l.course.end.loaded (argument r.base) None
+  pub opened_none : IsAddressOf (live_in l.course.end) (argument r.base) None
       → IsServed k plan modules n (serve_of r (reply_with l r.base.log None))
   opened_none none =
       refused NO_FUNCTION (λ e. absurd (omega (arith, e))) (λ e. absurd (omega (arith, e)))
@@ -199,7 +201,7 @@ module _ (k : Key) (plan : Plan) (modules : List Module) (p : PassView) (r : Raw
       (fits_no_function old p.guest r.base.log logged l.course.end later.policy
       (policies_below l.course.plan l.course.end is.policies) (argument r.base) NO_FUNCTION entry none refl)
 
-  pub given : (found : Option ℕ) → IsAddressOf l.course.end.loaded (argument r.base) found
+  pub given : (found : Option ℕ) → IsAddressOf (live_in l.course.end) (argument r.base) found
       → IsServed k plan modules n (serve_of r (reply_with l r.base.log found))
   given None has = opened_none has
   given (Some address) has = opened address has

@@ -6,7 +6,7 @@ use Rattle.cfi_loader.specs.Ledger.{Ledger}
 use Rattle.cfi_loader.specs.Passes.{reply_with}
 use Rattle.cfi_loader.specs.Results.{IsLoadFault, loaded_line, told_lines}
 use Rattle.cfi_loader.specs.declared.fault.LoadFault.{LoadFault}
-use Rattle.cfi_loader.specs.declared.fault.LoadFault.TheVariants.{EpochsSpent, Memory, ModulesFull, Place, Verify, VersionsSpent}
+use Rattle.cfi_loader.specs.declared.fault.LoadFault.TheVariants.{EpochsSpent, Memory, ModulesFull, Place, Retired, Verify, VersionsSpent}
 use Rattle.cfi_loader.specs.declared.loaded.Loaded.{Loaded}
 use Rattle.cfi_model.specs.declared.act.Wait.TheVariants as waits
 use Rattle.cfi_model.specs.Log.{is_pick_of, last_of, picked, picks_of}
@@ -17,7 +17,7 @@ use Rattle.cfi_model.proofs.LogLemmas.{ends_with, set_last, within}
 use Rattle.cfi_model.proofs.PickLemmas.{ends_in_pick}
 use Rattle.cfi_place.specs.declared.fault.PlaceFault.TheVariants as places
 use Rattle.cfi_plan.specs.declared.journal.JournalLine.{JournalLine}
-use Rattle.cfi_plan.specs.declared.journal.JournalLine.TheVariants.{LoadOk, LoadAgain, LoadEpochs, LoadFull, LoadPlace, LoadVerify, LoadVersions}
+use Rattle.cfi_plan.specs.declared.journal.JournalLine.TheVariants.{LoadOk, LoadAgain, LoadEpochs, LoadFull, LoadPlace, LoadRetired, LoadVerify, LoadVersions}
 use Rattle.cfi_plan.specs.declared.journal.Who.{Who}
 use Rattle.cfi_runner.specs.Picks.{picked_all}
 use Rattle.cfi_runner.specs.Run.{HasRunOn}
@@ -233,6 +233,9 @@ module _ (p q : PassView) (r new : Raw) (slip : SlipView) (guest : q.guest ≡ p
 
         pub slip_refused : (fault : LoadFault) → cause_by fault ≡ Some cause → IsLoadFault k who number fault first l
             → told ≡ with_lines (told_lines number (Err fault)) slip → IsSlipOf q new told
+        slip_refused Retired why has told_is =
+            by_cause causes.RETIRED cause policy (LoadRetired number) why (log_is causes.RETIRED) refl (refl, refl)
+            answer told_is
         slip_refused ModulesFull why has told_is =
             by_cause causes.MODULES_FULL cause policy (LoadFull number) why (log_is causes.MODULES_FULL) refl
             (refl, refl) answer told_is
@@ -268,6 +271,7 @@ slip_starved p q r slip told number guest is Memory none told_is = record {
   answered = subst (λ (xs : List JournalLine). AreAnswered r.base.log xs)
       (sym (ap (λ (s : SlipView). s.lines) told_is ∙ append-nil slip.lines)) is.answered;
 }
+slip_starved p q r slip told number guest is Retired none told_is = absurd (cc)
 slip_starved p q r slip told number guest is ModulesFull none told_is = absurd (cc)
 slip_starved p q r slip told number guest is (Place fault) none told_is = absurd (cc)
 slip_starved p q r slip told number guest is (Verify fault) none told_is = absurd (cc)

@@ -10,7 +10,7 @@ use Rattle.cfi_ledger.proofs.EntryLemmas.{loaded_all}
 use Rattle.cfi_model.specs.Log.{last_policy}
 use Rattle.cfi_plan.specs.declared.journal.Entry.{Entry}
 use Rattle.cfi_plan.specs.declared.journal.JournalLine.{JournalLine}
-use Rattle.cfi_plan.specs.declared.journal.JournalLine.TheVariants.{LoadEpochs, LoadFull, LoadPlace, LoadVerify, LoadVersions}
+use Rattle.cfi_plan.specs.declared.journal.JournalLine.TheVariants.{LoadEpochs, LoadFull, LoadPlace, LoadRetired, LoadVerify, LoadVersions}
 use Rattle.cfi_plan.specs.declared.journal.Who.TheVariants.{Guest}
 use Rattle.cfi_modules.specs.declared.numbers.FaultNumbers.TheVariants as numbers
 use Rattle.cfi_unit.specs.declared.log.Log.{Log}
@@ -18,9 +18,10 @@ use Rattle.cfi_unit.specs.declared.log.Log.TheVariants.{Pick, Open, Cause}
 use Rattle.cfi_valid.specs.Course.{Course}
 use Rattle.cfi_valid.specs.Growth.{FitsEntry}
 use Rattle.cfi_valid.specs.Joining.{HasFault, IsFull}
-use Rattle.cfi_valid.specs.Journal.{JournalState, LineLeads}
+use Rattle.cfi_valid.specs.Journal.{JournalState, LineLeads, live_in}
 use Rattle.cfi_valid.specs.Loaded.{LoadedModule}
 use Rattle.cfi_valid.specs.Log.{HasFunctionAt, HasNoFunction, HoldsInSpan, IsCaused, IsInSpan, IsLogged, VersionsSpent, is_too_old, is_versions, next_policy, why_of}
+use Rattle.cfi_valid.specs.Retiring.{HasGone}
 use Rattle.cfi_valid.specs.declared.causes.TheConstants as causes
 use Rattle.cfi_word.specs.declared.services.TheConstants.{NO_FUNCTION}
 
@@ -119,30 +120,26 @@ module _ (old : Course) (guest : ℕ) (log : List Log) (logged : IsLogged old gu
         all_taken [] = refl
         all_taken (x ∷ xs) = ap (λ (ys : List Log). x ∷ ys) (all_taken xs)
 
-    holds_now : (entry : Entry) (P : List LoadedModule → Type 0) → P end.loaded
+    holds_now : (entry : Entry) (P : (loaded live : List LoadedModule) → Type 0) → P end.loaded (live_in end)
         → HoldsInSpan (after entry end) (with_cause number cause) (length log) P
     holds_now entry P here = (
       end.policy,
       in_span,
-      subst P (sym (loaded_all end.policy end.loaded below)) here,
+      subst (λ (loaded : List LoadedModule). P loaded (live_in end))
+          (sym (loaded_all end.policy end.loaded below)) here,
     )
 
     -- a module without a function
-    pub fits_no_function : (entry : Entry) → HasNoFunction end.loaded number → cause ≡ NO_FUNCTION
+    pub fits_no_function : (entry : Entry) → HasNoFunction (live_in end) number → cause ≡ NO_FUNCTION
         → FitsEntry old (after entry end) guest log (Cause number cause)
     fits_no_function entry none is =
         subst (λ (n : ℕ). IsCaused (after entry end) guest (with_cause number cause) (length log) number (why_of n))
-        (sym is) (holds_now entry (λ (loaded : List LoadedModule). HasNoFunction loaded number) none)
+        (sym is) (holds_now entry (λ loaded live. HasNoFunction live number) none)
 
     -- a module that is open
-    pub fits_open : (entry : Entry) (address : ℕ) → HasFunctionAt end.loaded number address
+    pub fits_open : (entry : Entry) (address : ℕ) → HasFunctionAt (live_in end) number address
         → FitsEntry old (after entry end) guest log (Open number address end.policy)
-    fits_open entry address has = (
-      up,
-      omega arith,
-      subst (λ (loaded : List LoadedModule). HasFunctionAt loaded number address)
-          (sym (loaded_all end.policy end.loaded below)) has,
-    )
+    fits_open entry address has = (up, omega arith, has)
 
   -- a refused load leaves the state
   module _ (below : All (λ (l : LoadedModule). l.policy ≤ old.end.policy) old.end.loaded) (number : ℕ) where
@@ -153,23 +150,30 @@ module _ (old : Course) (guest : ℕ) (log : List Log) (logged : IsLogged old gu
         → FitsEntry old (after (line_of (LoadFull number)) still) guest log (Cause number causes.MODULES_FULL)
     fits_full full =
         holds_now still (omega arith) below number causes.MODULES_FULL (line_of (LoadFull number))
-        (λ (loaded : List LoadedModule). IsFull old.modules loaded number) full
+        (λ loaded live. IsFull old.modules loaded number) full
 
-    pub fits_place : (fault : ℕ) → HasFault old.plan.code_words old.modules old.end.loaded number (numbers.Place fault)
+    pub fits_retired : HasGone old.end.loaded (live_in old.end) number
+        → FitsEntry old (after (line_of (LoadRetired number)) still) guest log (Cause number causes.RETIRED)
+    fits_retired gone =
+        holds_now still (omega arith) below number causes.RETIRED (line_of (LoadRetired number))
+        (λ loaded live. HasGone loaded live number) gone
+
+    pub fits_place : (fault : ℕ)
+        → HasFault old.plan.code_words old.modules old.end.loaded (live_in old.end) number (numbers.Place fault)
         → FitsEntry old (after (line_of (LoadPlace number fault)) still) guest log (Cause number causes.NOT_PLACED)
     fits_place fault has =
         holds_now still (omega arith) below number causes.NOT_PLACED (line_of (LoadPlace number fault))
-        (λ (loaded : List LoadedModule).
-        (f : ℕ) × HasFault old.plan.code_words old.modules loaded number (numbers.Place f)) (fault, has)
+        (λ loaded live. (f : ℕ) × HasFault old.plan.code_words old.modules loaded live number (numbers.Place f))
+        (fault, has)
 
     pub fits_verify : (fault place : ℕ)
-        → HasFault old.plan.code_words old.modules old.end.loaded number (numbers.Verify fault place)
+        → HasFault old.plan.code_words old.modules old.end.loaded (live_in old.end) number (numbers.Verify fault place)
         → FitsEntry old (after (line_of (LoadVerify number fault place)) still) guest log
         (Cause number causes.NOT_VERIFIED)
     fits_verify fault place has =
         holds_now still (omega arith) below number causes.NOT_VERIFIED (line_of (LoadVerify number fault place))
-        (λ (loaded : List LoadedModule).
-        (f : ℕ) × (p : ℕ) × HasFault old.plan.code_words old.modules loaded number (numbers.Verify f p))
+        (λ loaded live.
+        (f : ℕ) × (p : ℕ) × HasFault old.plan.code_words old.modules loaded live number (numbers.Verify f p))
         (fault, place, has)
 
     pub fits_epochs : (new : JournalState) → LineLeads old.plan old.modules old.end (LoadEpochs number) new

@@ -1,5 +1,5 @@
 -- What a run has come to, from its ledger and its guests' parts.
-use Rattle.std.proofs.Common.{◌≡◌, ℕ, suc, true, List, [], ◌∷◌, Some, length, map, slice_get, refl, sym, ap, subst, ◌∙◌}
+use Rattle.std.proofs.Common.{◌≡◌, ℕ, suc, true, List, [], ◌∷◌, Some, length, map, slice_get, refl, sym, ap, subst, ◌∙◌, arith}
 use Rattle.std.specs.List.{AllByRecursion}
 use Rattle.std.proofs.lemmas.Option.{get_or_from_slice_get, slice_get_within}
 use Rattle.cfi_aux.specs.declared.modules.Module.{Module}
@@ -26,7 +26,8 @@ use Rattle.cfi_guest_run.specs.Concluded.{HasReadableNames, IsConcluded, conclus
 use Rattle.cfi_guest_run.specs.Ending.{code_by, history_by, tables_by}
 use Rattle.cfi_guest_run.specs.inner.Ending.{ArePartsAt, HasNumbers}
 use Rattle.cfi_guest_run.proofs.HistoryLemmas.{history_is}
-use Rattle.cfi_guest_run.proofs.NumberLemmas.{journal_known, lines_named}
+use Rattle.cfi_loader.proofs.NumberLemmas.{journal_below}
+use Rattle.cfi_guest_run.proofs.NameLemmas.{lines_named}
 use Rattle.cfi_guest_run.proofs.ReadableLemmas.{report_read}
 
 -- what holds at each place holds of each
@@ -97,7 +98,7 @@ module _ (k : Key) (plan : Plan) (modules : List Module) (l : Ledger) (is : IsLe
       report_read report numbers
       (subst (AllByRecursion (λ (m : ModuleLine). is_name m.name ≡ true)) (sym lines)
       (lines_named plan names l.course.end.loaded
-      (journal_known plan modules many report.journal l.course.end course_is)))
+      (journal_below plan modules (length plan.modules) (omega (arith, many)) report.journal l.course.end course_is (omega arith))))
       parts.fields (all_at CanBeRead report.guests (can_be_read names))
 
   pub concluded : IsConcluded (conclusion_of plan modules report)

@@ -22,7 +22,7 @@ use Rattle.cfi_tables.specs.Rule.{AgreesWith}
 use Rattle.cfi_tables.specs.Views.{noted}
 use Rattle.cfi_tables.specs.declared.view.PassView.{PassView}
 use Rattle.cfi_unit.specs.declared.log.Log.{Log}
-use Rattle.cfi_valid.specs.Journal.{JournalState}
+use Rattle.cfi_valid.specs.Journal.{members_of, JournalState}
 use Rattle.cfi_guest_run.specs.Answered.{AreAnswered, IsSlipOf}
 use Rattle.cfi_guest_run.specs.Ending.{IsPartAt, code_by, history_by, part_by, tables_by}
 use Rattle.cfi_guest_run.specs.Path.{AreDue}
@@ -32,7 +32,7 @@ use Rattle.cfi_guest_run.proofs.HistoryLemmas.{history_is}
 use Rattle.cfi_guest_run.proofs.NoteLemmas.{logged_now, runner_told}
 
 -- what is due is brought
-brought : (end : JournalState) (takes : List Take) (r : Raw) → AreDue end r takes → AreBrought end.loaded r takes
+brought : (end : JournalState) (takes : List Take) (r : Raw) → AreDue end r takes → AreBrought (members_of end) r takes
 brought end [] r due = tt
 brought end (Word word ∷ takes) r due = (tt, brought end takes (take_one r (Word word)) due.1)
 brought end (Served reply ∷ takes) r due =

@@ -5,7 +5,7 @@ use Rattle.cfi_loader.specs.Ledger.{Ledger, IsLedger}
 use Rattle.cfi_loader.specs.Results.{HasRefused, IsLoadFault}
 use Rattle.cfi_ledger.specs.Journal.{asked_by}
 use Rattle.cfi_loader.specs.declared.fault.LoadFault.{LoadFault}
-use Rattle.cfi_loader.specs.declared.fault.LoadFault.TheVariants.{EpochsSpent, Memory, ModulesFull, Place, Verify, VersionsSpent}
+use Rattle.cfi_loader.specs.declared.fault.LoadFault.TheVariants.{EpochsSpent, Memory, ModulesFull, Place, Retired, Verify, VersionsSpent}
 use Rattle.cfi_ledger.proofs.PolicyLemmas.{policies_below}
 use Rattle.cfi_model.specs.declared.act.Wait.TheVariants as waits
 use Rattle.cfi_model.specs.Log.{opens}
@@ -14,7 +14,7 @@ use Rattle.cfi_model.specs.Run.{serve_of}
 use Rattle.cfi_model.specs.Service.{argument, reply_of}
 use Rattle.cfi_place.specs.declared.fault.PlaceFault.TheVariants as places
 use Rattle.cfi_plan.specs.declared.journal.JournalLine.{JournalLine}
-use Rattle.cfi_plan.specs.declared.journal.JournalLine.TheVariants.{LoadEpochs, LoadFull, LoadPlace, LoadVerify, LoadVersions}
+use Rattle.cfi_plan.specs.declared.journal.JournalLine.TheVariants.{LoadEpochs, LoadFull, LoadPlace, LoadRetired, LoadVerify, LoadVersions}
 use Rattle.cfi_plan.specs.declared.journal.Who.TheVariants.{Guest}
 use Rattle.cfi_plan.specs.declared.plan.Plan.{Plan}
 use Rattle.cfi_tables.specs.Key.{Key}
@@ -31,7 +31,7 @@ use Rattle.cfi_word.specs.declared.limits.TheConstants.{MAX_OPENS}
 use Rattle.cfi_word.specs.declared.services.TheConstants.{OPEN}
 use Rattle.cfi_guest_run.specs.Runner.{HasAsked, IsRunnerBy, IsServed}
 use Rattle.cfi_guest_run.specs.Serving.{IsPassTold, cause_by}
-use Rattle.cfi_guest_run.proofs.CauseLemmas.{fits_epochs, fits_full, fits_place, fits_verify, fits_versions}
+use Rattle.cfi_guest_run.proofs.CauseLemmas.{fits_epochs, fits_full, fits_place, fits_retired, fits_verify, fits_versions}
 use Rattle.cfi_guest_run.proofs.AnswerLemmas.{refused, served_log_is}
 
 module _ (k : Key) (plan : Plan) (modules : List Module) (p : PassView) (r : Raw) (first : Ledger)
@@ -103,6 +103,15 @@ module _ (k : Key) (plan : Plan) (modules : List Module) (p : PassView) (r : Raw
       (as_before (LoadFull number) causes.MODULES_FULL leads.1.1
       (fits_full first.course p.guest r.base.log logged still_below number leads.1.0))
 
+  by_retired : HasRefused k (Guest p.guest) number Retired (LoadRetired number) first l → Answers causes.RETIRED
+  by_retired has =
+      let leads = has.told.course.leads in
+      refused k plan modules p r first at asked few logged (LoadRetired number) l has.told is note causes.RETIRED
+      (λ e. absurd (omega (arith, e))) (λ e. absurd (omega (arith, e)))
+      (served_log_is r (reply_of 0 causes.RETIRED l.course.end.policy []) is_waiting)
+      (as_before (LoadRetired number) causes.RETIRED leads.1.1
+      (fits_retired first.course p.guest r.base.log logged still_below number leads.1.0))
+
   by_epochs : HasRefused k (Guest p.guest) number EpochsSpent (LoadEpochs number) first l
       → Answers causes.EPOCHS_SPENT
   by_epochs has =
@@ -143,6 +152,7 @@ module _ (k : Key) (plan : Plan) (modules : List Module) (p : PassView) (r : Raw
 
   pub refused_by : (fault : LoadFault) (cause : ℕ) → cause_by fault ≡ Some cause
       → IsLoadFault k (Guest p.guest) number fault first l → Answers cause
+  refused_by Retired cause same has = some_cause causes.RETIRED cause same (by_retired has)
   refused_by ModulesFull cause same has = some_cause causes.MODULES_FULL cause same (by_full has)
   refused_by (Place (places.Undefined name)) cause same has =
       some_cause causes.NOT_PLACED cause same (by_place (Place (places.Undefined name)) 1 has)

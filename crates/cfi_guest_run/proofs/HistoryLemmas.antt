@@ -13,6 +13,7 @@ use Rattle.cfi_plan.specs.declared.plan.Plan.{Plan}
 use Rattle.cfi_policy.specs.Code.{IsCodeOf}
 use Rattle.cfi_runner.proofs.OpenedLemmas.{all_sight}
 use Rattle.cfi_runner.proofs.SeenLemmas.{seen_history}
+use Rattle.cfi_valid.specs.Journal.{members_of}
 use Rattle.cfi_tables.specs.Key.{Key}
 use Rattle.cfi_tables.specs.Views.{sight_of}
 use Rattle.cfi_valid.specs.FromLaw.{HasPolicies}
@@ -37,7 +38,7 @@ module _ (k : Key) (plan : Plan) (modules : List Module) (l : Ledger) (is : IsLe
   entry_there epoch known =
       is.told.images (epoch - k.first) no_entry (omega (arith, known.least, known.most, is.told.tables.some))
 
-  policies : HasPolicies l.course.plan.code_words loaded h
+  policies : HasPolicies l.course.plan.code_words (members_of l.course.end) h
   policies = record {
     modules = λ epoch known. (entry_there epoch known).is.modules;
     images = λ epoch known. (entry_there epoch known).is.image;

@@ -11,7 +11,7 @@ use mathlib.Core.List.{IsPrefix}
 use Rattle.cfi_aux.specs.declared.modules.Module.{Module}
 use Rattle.cfi_plan.specs.declared.journal.Entry.{Entry}
 use Rattle.cfi_plan.specs.declared.journal.JournalLine.{JournalLine}
-use Rattle.cfi_plan.specs.declared.journal.JournalLine.TheVariants.{LoadOk, LoadAgain, LoadFull, LoadPlace, LoadVerify, LoadVersions, LoadEpochs, RefreshOk, RefreshVersions, RefreshEpochs}
+use Rattle.cfi_plan.specs.declared.journal.JournalLine.TheVariants.{LoadOk, LoadAgain, LoadFull, LoadPlace, LoadVerify, LoadVersions, LoadEpochs, LoadRetired, RefreshOk, RefreshVersions, RefreshEpochs, RetireOk, RetireNotLive, RetireInUse, RetireVersions, RetireEpochs}
 use Rattle.cfi_plan.specs.declared.journal.Who.{Who}
 use Rattle.cfi_plan.specs.declared.journal.Who.TheVariants.{Script, Guest}
 use Rattle.cfi_plan.specs.declared.plan.Plan.{Plan}
@@ -20,9 +20,11 @@ use Rattle.cfi_loader.specs.Mark.{is_made, made_marks, mark_by, mark_of}
 use Rattle.cfi_ledger.specs.Plans.{CanStart}
 use Rattle.cfi_model.specs.declared.history.Entry.{Entry as TableEntry}
 use Rattle.cfi_tables.specs.Key.{Key}
-use Rattle.cfi_valid.specs.Journal.{JournalState, IsJournal, EntriesLead, LineLeads, MayAsk}
+use Rattle.cfi_loader.proofs.NumberLemmas.{AreBelow, line_below, live_loaded, loaded_below, opening_below}
+use Rattle.cfi_valid.specs.Retiring.{IsLiveAt}
+use Rattle.cfi_valid.specs.Journal.{JournalState, members_of, IsJournal, EntriesLead, LineLeads, MayAsk}
 use Rattle.cfi_valid.specs.Log.{is_versions, tells_versions}
-use Rattle.cfi_valid.specs.Script.{Load, Refresh, call_of}
+use Rattle.cfi_valid.specs.Script.{Load, Refresh, Retire, call_of}
 use Rattle.cfi_valid.proofs.JournalLemmas.{leads_once, opening_once}
 use Rattle.cfi_word.specs.declared.limits.TheConstants.{MAX_MODULES}
 
@@ -54,9 +56,15 @@ not_told guest number (Guest asking) (LoadPlace n fault) made = refl
 not_told guest number (Guest asking) (LoadVerify n fault place) made = refl
 not_told guest number (Guest asking) (LoadVersions n late quiet) made = absurd (cc)
 not_told guest number (Guest asking) (LoadEpochs n) made = refl
+not_told guest number (Guest asking) (LoadRetired n) made = refl
 not_told guest number (Guest asking) (RefreshOk epoch) made = refl
 not_told guest number (Guest asking) (RefreshVersions late quiet) made = refl
 not_told guest number (Guest asking) RefreshEpochs made = refl
+not_told guest number (Guest asking) (RetireOk n epoch policy) made = refl
+not_told guest number (Guest asking) (RetireNotLive n) made = refl
+not_told guest number (Guest asking) (RetireInUse n user) made = refl
+not_told guest number (Guest asking) (RetireVersions n late quiet) made = refl
+not_told guest number (Guest asking) (RetireEpochs n) made = refl
 
 pub none_told : (guest number : ℕ) (lines : List Entry) → AreUpdates lines
     → count_by (is_versions guest number) lines ≡ 0
@@ -78,9 +86,15 @@ module _ (plan : Plan) (modules : List Module) (can : CanStart plan modules) whe
   still old new (LoadVerify number fault place) leads made = leads.1
   still old new (LoadVersions number guest quiet) leads made = leads.2
   still old new (LoadEpochs number) leads made = leads.2
+  still old new (LoadRetired number) leads made = leads.1
   still old new (RefreshOk epoch) leads made = absurd (cc)
   still old new (RefreshVersions guest quiet) leads made = leads.1
   still old new RefreshEpochs leads made = leads.1
+  still old new (RetireOk number epoch policy) leads made = absurd (cc)
+  still old new (RetireNotLive number) leads made = leads.1
+  still old new (RetireInUse number user) leads made = leads.1
+  still old new (RetireVersions number guest quiet) leads made = leads.2
+  still old new (RetireEpochs number) leads made = leads.2
 
   updates_lead : (journal : List Entry) (old new : JournalState) → EntriesLead plan modules old journal new
       → EntriesLead plan modules old (updates journal) new
@@ -111,16 +125,32 @@ module _ (plan : Plan) (modules : List Module) (can : CanStart plan modules) whe
   no_refresh n Script other line low may same = omega (arith, low, same)
   no_refresh n (Guest a) other line low may same = omega (arith, low, may.0, can.most_guests, same)
 
+  -- that of a retirement lies between those of the script's loads and those of a guest's
+  no_load : (n m : ℕ) (who other : Who) → n < MAX_MODULES → m < MAX_MODULES
+      → mark_by who (Load n) ≡ mark_by other (Retire m) → ⊥
+  no_load n m Script other low low' same = omega (arith, low, same)
+  no_load n m (Guest a) other low low' same = omega (arith, low', same)
+
+  no_retirement : (n : ℕ) (who other : Who) → n < MAX_MODULES → mark_by who (Retire n) ≡ mark_by other Refresh → ⊥
+  no_retirement n who other low same = omega (arith, low, same)
+
+  -- a live module is one of the plan
+  live_low : (old : JournalState) → AreBelow MAX_MODULES old.loaded → (number : ℕ)
+      → IsLiveAt old.policy (members_of old) number → number < MAX_MODULES
+  live_low old below number live =
+      loaded_below MAX_MODULES old.loaded below number (live_loaded old.policy (members_of old) number live)
+
   -- one line leads to one state, whoever asked
   one_line : (old a b : JournalState) (who other : Who) (line : JournalLine) → MayAsk plan who line
       → LineLeads plan modules old line a → LineLeads plan modules old line b → a ≡ b
   one_line old a b who other line may p q =
       leads_once plan modules old (record { who = who; what = line }) a b (may, p) (may, q)
 
-  one_mark : (old a b : JournalState) (who other : Who) (x y : JournalLine) → is_made x ≡ true → is_made y ≡ true
+  one_mark : (old a b : JournalState) → AreBelow MAX_MODULES old.loaded → (who other : Who) (x y : JournalLine)
+      → is_made x ≡ true → is_made y ≡ true
       → mark_by who (call_of x) ≡ mark_by other (call_of y) → MayAsk plan who x → MayAsk plan other y
       → LineLeads plan modules old x a → LineLeads plan modules old y b → a ≡ b
-  one_mark old a b who other (LoadOk n epoch policy) (LoadOk m next other_policy) made made' same may may' p q =
+  one_mark old a b below who other (LoadOk n epoch policy) (LoadOk m next other_policy) made made' same may may' p q =
       let there = slice_get_within modules n p.0.clean.absent.unplaced p.0.clean.absent.is in
       let there' = slice_get_within modules m q.0.clean.absent.unplaced q.0.clean.absent.is in
       let number : n ≡ m = one_number n m who other (omega (arith, there, few_modules))
@@ -130,16 +160,33 @@ module _ (plan : Plan) (modules : List Module) (can : CanStart plan modules) whe
       let lines : LoadOk m next other_policy ≡ LoadOk n epoch policy = cc in
       one_line old a b who other (LoadOk n epoch policy) may p
       (subst (λ (line : JournalLine). LineLeads plan modules old line b) lines q)
-  one_mark old a b who other (LoadOk n epoch policy) (RefreshOk next) made made' same may may' p q =
+  one_mark old a b below who other (LoadOk n epoch policy) (RefreshOk next) made made' same may may' p q =
       let there = slice_get_within modules n p.0.clean.absent.unplaced p.0.clean.absent.is in
       absurd (no_refresh n who other (LoadOk n epoch policy) (omega (arith, there, few_modules)) may same)
-  one_mark old a b who other (RefreshOk epoch) (LoadOk m next policy) made made' same may may' p q =
+  one_mark old a b below who other (RefreshOk epoch) (LoadOk m next policy) made made' same may may' p q =
       let there = slice_get_within modules m q.0.clean.absent.unplaced q.0.clean.absent.is in
       absurd (no_refresh m other who (LoadOk m next policy) (omega (arith, there, few_modules)) may' (sym same))
-  one_mark old a b who other (RefreshOk epoch) (RefreshOk next) made made' same may may' p q =
+  one_mark old a b below who other (RefreshOk epoch) (RefreshOk next) made made' same may may' p q =
       let epochs : epoch ≡ next = p.0.next ∙ sym q.0.next in
       p.1 ∙ (ap (λ (n : ℕ). record old { epoch = n }) epochs ∙ sym q.1)
-  one_mark old a b who other x y made made' same may may' p q = absurd (cc)
+  one_mark old a b below who other (RetireOk n epoch policy) (RetireOk m next other_policy) made made' same may may' p q =
+      let number : n ≡ m = omega (arith, same) in
+      let epochs : epoch ≡ next = p.0.goes.next ∙ sym q.0.goes.next in
+      let policies : policy ≡ other_policy = p.0.next ∙ sym q.0.next in
+      let lines : RetireOk m next other_policy ≡ RetireOk n epoch policy = cc in
+      one_line old a b who other (RetireOk n epoch policy) may p
+      (subst (λ (line : JournalLine). LineLeads plan modules old line b) lines q)
+  one_mark old a b below who other (RetireOk n epoch policy) (LoadOk m next other_policy) made made' same may may' p q =
+      let there = slice_get_within modules m q.0.clean.absent.unplaced q.0.clean.absent.is in
+      absurd (no_load m n other who (omega (arith, there, few_modules)) (live_low old below n p.0.unused.live) (sym same))
+  one_mark old a b below who other (LoadOk n epoch policy) (RetireOk m next other_policy) made made' same may may' p q =
+      let there = slice_get_within modules n p.0.clean.absent.unplaced p.0.clean.absent.is in
+      absurd (no_load n m who other (omega (arith, there, few_modules)) (live_low old below m q.0.unused.live) same)
+  one_mark old a b below who other (RetireOk n epoch policy) (RefreshOk next) made made' same may may' p q =
+      absurd (no_retirement n who other (live_low old below n p.0.unused.live) same)
+  one_mark old a b below who other (RefreshOk epoch) (RetireOk m next policy) made made' same may may' p q =
+      absurd (no_retirement m other who (live_low old below m q.0.unused.live) (sym same))
+  one_mark old a b below who other x y made made' same may may' p q = absurd (cc)
 
   -- ---- one history is a beginning of the other
 
@@ -149,21 +196,23 @@ module _ (plan : Plan) (modules : List Module) (can : CanStart plan modules) whe
     pub updates : AreUpdates lines
     pub leads : EntriesLead plan modules from lines to
 
-  lead_on : (xs ys : List Entry) (old a b : JournalState) (more : List ℕ) → AreUpdates xs → AreUpdates ys
+  lead_on : (xs ys : List Entry) (old a b : JournalState) (more : List ℕ) → AreBelow MAX_MODULES old.loaded
+      → AreUpdates xs → AreUpdates ys
       → map mark_of xs ++ more ≡ map mark_of ys → EntriesLead plan modules old xs a → EntriesLead plan modules old ys b
       → LeadsOn a b
-  lead_on [] ys old a b more all all' same p q = record {
+  lead_on [] ys old a b more below all all' same p q = record {
     lines = ys;
     updates = all';
     leads = subst (λ (s : JournalState). EntriesLead plan modules s ys b) (sym p) q;
   }
-  lead_on (x ∷ xs) [] old a b more all all' same p q = absurd (cc)
-  lead_on (x ∷ xs) (y ∷ ys) old a b more all all' same p q =
+  lead_on (x ∷ xs) [] old a b more below all all' same p q = absurd (cc)
+  lead_on (x ∷ xs) (y ∷ ys) old a b more below all all' same p q =
       let first : mark_of x ≡ mark_of y = cc in
       let rest : map mark_of xs ++ more ≡ map mark_of ys = cc in
       let mid : p.0 ≡ q.0 =
-      one_mark old p.0 q.0 x.who y.who x.what y.what all.0 all'.0 first p.1.0 q.1.0 p.1.1 q.1.1 in
-      lead_on xs ys q.0 a b more all.1 all'.1 rest
+      one_mark old p.0 q.0 below x.who y.who x.what y.what all.0 all'.0 first p.1.0 q.1.0 p.1.1 q.1.1 in
+      let after = line_below plan modules MAX_MODULES few_modules old q.0 y.what q.1.1 below in
+      lead_on xs ys q.0 a b more after all.1 all'.1 rest
       (subst (λ (s : JournalState). EntriesLead plan modules s xs a) mid p.2) q.2
 
   -- ---- no line tells of a module that the plan lacks
@@ -221,7 +270,9 @@ module _ (k : Key) (plan : Plan) (modules : List Module) (l m : Ledger) (is : Is
       (λ i. (same_plan i, same_modules i)) later.course in
       let opening = opening_once plan' modules' opens.opening is.course.opening opens.opens is.course.opens in
       lead_on plan' modules' is.can_start (updates l.course.journal) (updates m.course.journal) is.course.opening
-      l.course.end m.course.end (map mark_in begins.0) (all_updates l.course.journal) (all_updates m.course.journal)
+      l.course.end m.course.end (map mark_in begins.0)
+      (opening_below plan' modules' MAX_MODULES (few_modules plan' modules' is.can_start) is.course.opening
+      is.course.opens is.can_start.most_modules) (all_updates l.course.journal) (all_updates m.course.journal)
       marks_begin
       (updates_lead plan' modules' is.can_start l.course.journal is.course.opening l.course.end is.course.leads)
       (updates_lead plan' modules' is.can_start m.course.journal is.course.opening m.course.end

@@ -20,7 +20,7 @@ pub mod HistoryLemmas
 pub mod EndedLemmas
 pub mod LineLemmas
 pub mod EndingLemmas
-pub mod NumberLemmas
+pub mod NameLemmas
 pub mod ReadableLemmas
 pub mod ConcludedLemmas
 pub mod OpensLemmas

@@ -11,6 +11,7 @@ use Rattle.cfi_model.specs.Words.{no_entry}
 use Rattle.cfi_plan.specs.declared.plan.Plan.{Plan}
 use Rattle.cfi_runner.specs.Seen.{IsSight, policy_seen}
 use Rattle.cfi_runner.proofs.SeenLemmas.{policy_later}
+use Rattle.cfi_valid.specs.Journal.{members_of}
 use Rattle.cfi_tables.specs.Key.{Key}
 use Rattle.cfi_tables.specs.Views.{noted}
 use Rattle.cfi_tables.specs.declared.view.PassView.{PassView}
@@ -134,7 +135,7 @@ module _ (k : Key) (plan : Plan) (modules : List Module) (p : PassView) (r : Raw
         last = kept.last;
         path = record {
           start = path.start;
-          opened = subst (λ (a : Plan). IsOpenedAs a m.course.end.loaded n.guest path.start)
+          opened = subst (λ (a : Plan). IsOpenedAs a (members_of m.course.end) n.guest path.start)
               (was.settled.ledger.plan_is ∙ sym is.plan_is)
               (opened_later l.course.plan l.course.end m.course.end later n.guest path.start path.opened);
           starts = path.starts;

@@ -15,6 +15,7 @@ use Rattle.cfi_runner.specs.Seen.{IsSight, history_seen, policy_seen}
 use Rattle.cfi_runner.proofs.OpenedLemmas.{all_sight, all_start, opened_can}
 use Rattle.cfi_slips.specs.Stubs.{slip_by}
 use Rattle.cfi_slips.specs.declared.view.SlipView.{SlipView}
+use Rattle.cfi_valid.specs.Journal.{members_of}
 use Rattle.cfi_tables.specs.Key.{Key}
 use Rattle.cfi_tables.specs.Keeping.{last_of}
 use Rattle.cfi_tables.specs.Views.{admitted}
@@ -46,7 +47,7 @@ policy_last : (k : Key) (first len : ℕ) → first + (len - 1) - first ≡ len 
 policy_last k first len = omega arith
 
 module _ (k : Key) (plan : Plan) (modules : List Module) (guest : ℕ) (start : Raw) (l : Ledger)
-    (is : IsLedger k plan modules l) (opened : IsOpenedAs plan l.course.end.loaded guest start)
+    (is : IsLedger k plan modules l) (opened : IsOpenedAs plan (members_of l.course.end) guest start)
     (here : IsStartIn (last_of l.keeping.entries).image start.base.pc) where
   abbrev p : PassView
   p = admitted k l.keeping guest
@@ -66,7 +67,7 @@ module _ (k : Key) (plan : Plan) (modules : List Module) (guest : ℕ) (start : 
   can : CanRunOn k plan.fuel p start
   can =
       subst (CanRunOn k plan.fuel p) (sym opened.is)
-      (opened_can k p plan.fuel guest opened.address (start_fills Filled l.course.end.loaded) sight
+      (opened_can k p plan.fuel guest opened.address (start_fills Filled (members_of l.course.end)) sight
       (subst (λ (r : Raw). IsStart (history_seen k p.sight) r.base.pc) opened.is starts))
 
   log_is : start.base.log ≡ []
@@ -84,7 +85,7 @@ module _ (k : Key) (plan : Plan) (modules : List Module) (guest : ℕ) (start : 
     last = start;
     path = record {
       start = start;
-      opened = subst (λ (a : Plan). IsOpenedAs a l.course.end.loaded guest start) (sym is.plan_is) opened;
+      opened = subst (λ (a : Plan). IsOpenedAs a (members_of l.course.end) guest start) (sym is.plan_is) opened;
       starts = starts;
       came = [];
       loads = refl;

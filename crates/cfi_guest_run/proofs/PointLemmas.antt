@@ -12,6 +12,7 @@ use Rattle.cfi_runner.specs.Seen.{SeesMore, code_seen, history_seen}
 use Rattle.cfi_runner.proofs.OpenedLemmas.{quiet_sees}
 use Rattle.cfi_runner.proofs.SeenLemmas.{sees_trans, start_later}
 use Rattle.cfi_loader.specs.Ledger.{Ledger}
+use Rattle.cfi_valid.specs.Journal.{members_of}
 use Rattle.cfi_tables.specs.Key.{Key}
 use Rattle.cfi_tables.specs.Loads.{IsQuiet, access_of}
 use Rattle.cfi_tables.specs.Views.{last_moment}
@@ -64,7 +65,7 @@ module _ (k : Key) (plan : Plan) (modules : List Module) (p q : PassView) (r : R
   path_point : IsPath k l.course q was.last
   path_point = record {
     start = path.start;
-    opened = subst (λ g. IsOpenedAs l.course.plan l.course.end.loaded g path.start) (sym quiet.load.guest) path.opened;
+    opened = subst (λ g. IsOpenedAs l.course.plan (members_of l.course.end) g path.start) (sym quiet.load.guest) path.opened;
     starts = start_later k p.sight q.sight was.sight sees path.start.base.pc path.starts;
     came = more;
     loads = loads_append path.came (Loaded access ∷ [])

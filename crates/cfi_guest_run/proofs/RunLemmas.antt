@@ -16,6 +16,7 @@ use Rattle.cfi_runner.specs.Seen.{history_seen, code_seen}
 use Rattle.cfi_runner.specs.declared.pause.Pause.{Pause}
 use Rattle.cfi_runner.specs.declared.pause.Pause.TheVariants as pauses
 use Rattle.cfi_runner.proofs.SeenLemmas.{sees_trans, start_later}
+use Rattle.cfi_valid.specs.Journal.{members_of}
 use Rattle.cfi_tables.specs.Key.{Key}
 use Rattle.cfi_tables.specs.declared.view.PassView.{PassView}
 use Rattle.cfi_tables.proofs.Prefixes.{prefix_trans}
@@ -113,7 +114,7 @@ module _ (k : Key) (plan : Plan) (modules : List Module) (p q : PassView) (old n
   path_run : IsPath k l.course q run.last
   path_run = record {
     start = path.start;
-    opened = subst (λ g. IsOpenedAs l.course.plan l.course.end.loaded g path.start) (sym run.keeps.guest) path.opened;
+    opened = subst (λ g. IsOpenedAs l.course.plan (members_of l.course.end) g path.start) (sym run.keeps.guest) path.opened;
     starts = start_later k p.sight q.sight can.sight run.keeps.sees path.start.base.pc path.starts;
     came = more;
     loads = loads_append path.came (all_loaded accesses)

@@ -10,6 +10,7 @@ use Rattle.cfi_runner.specs.Seen.{IsSight, SeesMore, policy_seen}
 use Rattle.cfi_runner.proofs.OpenedLemmas.{noted_sees}
 use Rattle.cfi_runner.proofs.SeenLemmas.{policy_later, sees_same, sees_trans, start_later}
 use Rattle.cfi_loader.specs.Ledger.{Ledger}
+use Rattle.cfi_valid.specs.Journal.{members_of}
 use Rattle.cfi_tables.specs.Keeping.{Keeping}
 use Rattle.cfi_tables.specs.Key.{Key}
 use Rattle.cfi_tables.specs.Rule.{AgreesWith}
@@ -66,7 +67,7 @@ pub path_on : (k : Key) (c : Course) (p q : PassView) (last : Raw) → IsPath k 
     → IsSight k p.sight → IsPath k c q last
 path_on k c p q last path on is = record {
   start = path.start;
-  opened = subst (λ g. IsOpenedAs c.plan c.end.loaded g path.start) (sym on.guest) path.opened;
+  opened = subst (λ g. IsOpenedAs c.plan (members_of c.end) g path.start) (sym on.guest) path.opened;
   starts = start_later k p.sight q.sight is on.sees path.start.base.pc path.starts;
   came = path.came;
   loads = path.loads ∙ sym on.accesses;

@@ -26,7 +26,7 @@ use Rattle.cfi_unit.specs.declared.log.Log.{Log}
 use Rattle.cfi_unit.specs.declared.log.Log.TheVariants.{Pick, Open, Cause}
 use Rattle.cfi_unit.specs.declared.log.Stop.TheVariants as stops
 use Rattle.cfi_valid.specs.Growth.{IsLater}
-use Rattle.cfi_valid.specs.Journal.{JournalState}
+use Rattle.cfi_valid.specs.Journal.{members_of, JournalState}
 use Rattle.cfi_valid.specs.Loaded.{Filled}
 use Rattle.cfi_valid.proofs.GuestLemmas.{guest_begins_later}
 use Rattle.cfi_valid.proofs.GrowthLemmas.{loaded_stays, start_fills_stay}
@@ -43,7 +43,7 @@ use Rattle.cfi_guest_run.proofs.RunLemmas.{end_going}
 -- ---- where a guest begins
 
 pub opened_later : (plan : Plan) (old new : JournalState) → IsLater old new → (number : ℕ) (start : Raw)
-    → IsOpenedAs plan old.loaded number start → IsOpenedAs plan new.loaded number start
+    → IsOpenedAs plan (members_of old) number start → IsOpenedAs plan (members_of new) number start
 opened_later plan old new later number start opened =
     let same = loaded_stays old new later 0 (omega arith) in
     record {
@@ -127,7 +127,7 @@ module _ (k : Key) (plan : Plan) (modules : List Module) (q n : PassView) (r : R
   path_served = record {
     start = path.start;
     opened =
-        subst (λ (a : Plan). IsOpenedAs a m.course.end.loaded n.guest path.start)
+        subst (λ (a : Plan). IsOpenedAs a (members_of m.course.end) n.guest path.start)
         (at.settled.ledger.plan_is ∙ sym settled.ledger.plan_is)
         (opened_later l.course.plan l.course.end m.course.end later n.guest path.start path.opened);
     starts = path.starts;

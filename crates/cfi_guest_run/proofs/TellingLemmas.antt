@@ -6,7 +6,6 @@ use Rattle.std.proofs.lemmas.List.{append-nil}
 use Rattle.cfi_aux.specs.declared.modules.Module.{Module}
 use Rattle.cfi_plan.specs.declared.journal.Entry.{Entry}
 use Rattle.cfi_plan.specs.declared.journal.JournalLine.{JournalLine}
-use Rattle.cfi_plan.specs.declared.journal.JournalLine.TheVariants.{LoadOk, LoadAgain, LoadFull, LoadPlace, LoadVerify, LoadVersions, LoadEpochs, RefreshOk, RefreshVersions, RefreshEpochs}
 use Rattle.cfi_plan.specs.declared.plan.Plan.{Plan}
 use Rattle.cfi_model.specs.Log.{picked}
 use Rattle.cfi_unit.specs.declared.log.Log.{Log}
@@ -14,8 +13,9 @@ use Rattle.cfi_unit.specs.declared.log.Log.TheVariants.{Pick, Open, Cause}
 use Rattle.cfi_valid.specs.Course.{Course}
 use Rattle.cfi_valid.specs.Growth.{Continues}
 use Rattle.cfi_valid.specs.Journal.{JournalState, EntriesLead, LineLeads}
-use Rattle.cfi_valid.specs.Log.{IsCaused, IsLogged, is_versions, NoModule, ModulesFull, NotPlaced, NotVerified, VersionsSpent, EpochsSpent, NoFunction, Unlogged, Why, why_of}
+use Rattle.cfi_valid.specs.Log.{IsCaused, IsLogged, is_versions, NoModule, ModulesFull, NotPlaced, NotVerified, VersionsSpent, EpochsSpent, NoFunction, Retired, Unlogged, Why, why_of}
 use Rattle.cfi_valid.proofs.EntryGrowth.{log_grows}
+use Rattle.cfi_valid.proofs.LineLemmas.{line_does}
 use Rattle.cfi_valid.proofs.LogGrowth.{log_stays}
 use Rattle.cfi_valid.proofs.PickGrowth.{picks_grow}
 use Rattle.cfi_guest_run.specs.Settled.{ComeBetween, log_with_all}
@@ -26,28 +26,10 @@ module _ (plan : Plan) (modules : List Module) where
   -- no line goes further than to the next policy
   next_most : (old new : JournalState) (line : JournalLine) → LineLeads plan modules old line new
       → new.policy ≤ old.policy + 1
-  next_most old new (LoadOk number epoch policy) leads =
-      let is : new.policy ≡ policy = ap (λ (s : JournalState). s.policy) leads.1 in omega (arith, is, leads.0.next)
-  next_most old new (LoadAgain number policy) leads = same old new leads.1
-    where
-      same : (old new : JournalState) → new ≡ old → new.policy ≤ old.policy + 1
-      same old new is = let e : new.policy ≡ old.policy = ap (λ (s : JournalState). s.policy) is in omega (arith, e)
-  next_most old new (LoadFull number) leads =
-      let e : new.policy ≡ old.policy = ap (λ (s : JournalState). s.policy) leads.1 in omega (arith, e)
-  next_most old new (LoadPlace number fault) leads =
-      let e : new.policy ≡ old.policy = ap (λ (s : JournalState). s.policy) leads.1 in omega (arith, e)
-  next_most old new (LoadVerify number fault place) leads =
-      let e : new.policy ≡ old.policy = ap (λ (s : JournalState). s.policy) leads.1 in omega (arith, e)
-  next_most old new (LoadVersions number guest quiet) leads =
-      let e : new.policy ≡ old.policy = ap (λ (s : JournalState). s.policy) leads.2 in omega (arith, e)
-  next_most old new (LoadEpochs number) leads =
-      let e : new.policy ≡ old.policy = ap (λ (s : JournalState). s.policy) leads.2 in omega (arith, e)
-  next_most old new (RefreshOk epoch) leads =
-      let e : new.policy ≡ old.policy = ap (λ (s : JournalState). s.policy) leads.1 in omega (arith, e)
-  next_most old new (RefreshVersions guest quiet) leads =
-      let e : new.policy ≡ old.policy = ap (λ (s : JournalState). s.policy) leads.1 in omega (arith, e)
-  next_most old new RefreshEpochs leads =
-      let e : new.policy ≡ old.policy = ap (λ (s : JournalState). s.policy) leads.1 in omega (arith, e)
+  next_most old new line leads =
+      line_does plan modules old (λ more gone s. s.policy ≤ old.policy + 1) (omega arith)
+      (λ number epoch policy load. omega (arith, load.next))
+      (λ number epoch policy retire. omega (arith, retire.next)) (λ epoch goes. omega arith) line new leads
 
   -- the lines lead by way of a state with this policy
   pub record LeadsBy (from to : JournalState) (lines : List Entry) (policy : ℕ) : Type 0 where
@@ -165,6 +147,7 @@ module _ (c : Course) (journal : List Entry) (guest : ℕ) (log : List Log)
   caused_as at number VersionsSpent caused = omega (arith, caused, as_many number)
   caused_as at number EpochsSpent caused = caused
   caused_as at number NoFunction caused = caused
+  caused_as at number Retired caused = caused
   caused_as at number Unlogged caused = caused
 
   -- that tells of as many versions that were spent

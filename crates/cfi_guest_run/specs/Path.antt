@@ -12,7 +12,7 @@ use Rattle.cfi_tables.specs.Key.{Key}
 use Rattle.cfi_tables.specs.declared.view.PassView.{PassView}
 use Rattle.cfi_tables.specs.declared.view.Sight.{Sight}
 use Rattle.cfi_valid.specs.Course.{Course}
-use Rattle.cfi_valid.specs.Journal.{JournalState}
+use Rattle.cfi_valid.specs.Journal.{JournalState, members_of}
 use Rattle.cfi_valid.specs.Loaded.{fills_between, Filled}
 use Rattle.cfi_valid.specs.Replay.{given_by}
 
@@ -20,7 +20,7 @@ use Rattle.cfi_valid.specs.Replay.{given_by}
 -- the cells at that policy
 pub record IsDue (end : JournalState) (r : Raw) (reply : Reply) : Type 0 where
   pub most : reply.policy ≤ end.policy
-  pub fills : reply.fills ≡ fills_between Filled (given_by r.base.log) reply.policy end.loaded
+  pub fills : reply.fills ≡ fills_between Filled (given_by r.base.log) reply.policy (members_of end)
 
 -- a service that answered with cause 0 was due, as the state at the end has it; of a word nothing is asked
 abbrev pub IsDueWith : JournalState → Raw → Take → Type 0
@@ -37,7 +37,7 @@ AreDue end r (t ∷ takes) = IsDueWith end r t × AreDue end (take_one r t) take
 -- that it has seen then.
 pub record IsPath (k : Key) (c : Course) (p : PassView) (last : Raw) : Type 0 where
   pub start : Raw
-  pub opened : IsOpenedAs c.plan c.end.loaded p.guest start
+  pub opened : IsOpenedAs c.plan (members_of c.end) p.guest start
   pub starts : IsStart (history_seen k p.sight) start.base.pc
   pub came : List Came
   pub loads : loads_in came ≡ p.sight.accesses

@@ -17,6 +17,7 @@ use Rattle.cfi_tables.specs.Keeping.{last_of}
 use Rattle.cfi_tables.specs.Key.{Key}
 use Rattle.cfi_tables.specs.Views.{admitted}
 use Rattle.cfi_tables.specs.declared.view.PassView.{PassView}
+use Rattle.cfi_valid.specs.Journal.{members_of}
 use Rattle.cfi_guest_part.specs.Part.{IsEndOf, IsWithin}
 use Rattle.cfi_guest_part.specs.Ran.{IsOpenedAs}
 use Rattle.cfi_guest_run.specs.Answered.{IsSlipOf}
@@ -74,7 +75,7 @@ pub record IsOpening (k : Key) (plan : Plan) (modules : List Module) (p : PassVi
   pub ledger : Ledger
   pub is : IsLedger k plan modules ledger
   pub pass : p ≡ admitted k ledger.keeping p.guest
-  pub guest : IsOpenedAs plan ledger.course.end.loaded p.guest r
+  pub guest : IsOpenedAs plan (members_of ledger.course.end) p.guest r
   pub starts : IsStartIn (last_of ledger.keeping.entries).image r.base.pc
 
 -- inside a service a pass may have parked, and has seen more of the tables, or as much, but has loaded nothing

@@ -4,7 +4,7 @@ use mathlib.Core.List.{IsPrefix}
 use Rattle.cfi_aux.specs.declared.modules.Module.{Module}
 use Rattle.cfi_loader.specs.Ledger.{Ledger, IsLedger}
 use Rattle.cfi_loader.specs.declared.fault.LoadFault.{LoadFault}
-use Rattle.cfi_loader.specs.declared.fault.LoadFault.TheVariants.{ModulesFull, Place, Verify, EpochsSpent, VersionsSpent, Memory}
+use Rattle.cfi_loader.specs.declared.fault.LoadFault.TheVariants.{Retired, ModulesFull, Place, Verify, EpochsSpent, VersionsSpent, Memory}
 use Rattle.cfi_model.specs.Raw.{Raw}
 use Rattle.cfi_model.specs.Run.{serve_of}
 use Rattle.cfi_model.specs.Service.{Reply}
@@ -24,6 +24,7 @@ pub record IsPassTold (k : Key) (plan : Plan) (modules : List Module) (l : Ledge
 -- the cause with which an open is answered whose load was refused; want of memory leaves it unanswered
 abbrev pub cause_by : LoadFault → Option ℕ
 cause_by Memory = None
+cause_by Retired = Some causes.RETIRED
 cause_by ModulesFull = Some causes.MODULES_FULL
 cause_by (Place fault) = Some causes.NOT_PLACED
 cause_by (Verify fault) = Some causes.NOT_VERIFIED

@@ -6,13 +6,14 @@ ghost use Rattle.cfi_guest_run.specs.Serving.{cause_by};
 
 use cfi_loader::LoadFault;
 use cfi_unit::Log;
-use cfi_valid::{EPOCHS_SPENT, MODULES_FULL, NOT_PLACED, NOT_VERIFIED, VERSIONS_SPENT};
+use cfi_valid::{EPOCHS_SPENT, MODULES_FULL, NOT_PLACED, NOT_VERIFIED, RETIRED, VERSIONS_SPENT};
 
 /// The cause with which an open is answered whose load was refused; None for want of memory.
 pub(crate) fn cause_by(fault: &LoadFault) -> Option<u32>
     ensures { result ≡ cause_by fault.now }
 {
     match fault {
+        LoadFault::Retired => Some(RETIRED),
         LoadFault::ModulesFull => Some(MODULES_FULL),
         LoadFault::Place(_) => Some(NOT_PLACED),
         LoadFault::Verify(_) => Some(NOT_VERIFIED),

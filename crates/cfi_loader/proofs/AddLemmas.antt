@@ -3,10 +3,10 @@ use Rattle.std.proofs.Common.{◌≡◌, ◌≢◌, ℕ, ◌+◌, true, List, ge
 use Rattle.std.specs.Prelude.{option_map}
 use Rattle.cfi_aux.specs.declared.placed.Placed.{Placed}
 use Rattle.cfi_plan.specs.declared.journal.JournalLine.{JournalLine}
-use Rattle.cfi_plan.specs.declared.journal.JournalLine.TheVariants.{LoadAgain, LoadFull, LoadPlace, LoadVerify, LoadEpochs}
+use Rattle.cfi_plan.specs.declared.journal.JournalLine.TheVariants.{LoadAgain, LoadFull, LoadPlace, LoadVerify, LoadEpochs, LoadRetired}
 use Rattle.cfi_plan.specs.declared.journal.Who.{Who}
 use Rattle.cfi_modules.specs.Numbers.{numbers_of}
-use Rattle.cfi_modules.specs.Order.{IsJoinFault, Joins}
+use Rattle.cfi_modules.specs.Order.{IsJoinFault}
 use Rattle.cfi_modules.specs.declared.fault.JoinFault.{JoinFault}
 use Rattle.cfi_modules.specs.declared.fault.JoinFault.TheVariants.{Place, Verify, Memory}
 use Rattle.cfi_modules.specs.declared.numbers.FaultNumbers.{FaultNumbers}
@@ -19,7 +19,8 @@ use Rattle.cfi_tables.specs.Keeping.{Keeping}
 use Rattle.cfi_tables.specs.Key.{Key}
 use Rattle.cfi_tables.specs.declared.fault.UpdateFault.TheVariants.{EpochsSpent}
 use Rattle.cfi_valid.specs.Joining.{IsFull, HasFault}
-use Rattle.cfi_valid.specs.Journal.{IsClean}
+use Rattle.cfi_valid.specs.Journal.{IsClean, live_in}
+use Rattle.cfi_valid.specs.Retiring.{HasGone}
 use Rattle.cfi_valid.specs.NumberedLine.{numbered_line}
 use Rattle.cfi_valid.specs.Loaded.{placed_modules}
 use Rattle.cfi_valid.specs.Script.{Load}
@@ -33,13 +34,14 @@ use Rattle.cfi_ledger.specs.Opens.{IsAddressOf, IsFirstGlobal}
 use Rattle.cfi_loader.specs.Told.{MayAskFor}
 use Rattle.cfi_ledger.specs.Books.{course_in, end_of_books, loaded_in, with_journal}
 use Rattle.cfi_loader.specs.inner.Books.{ledger_of, BooksAgree, IsAfter}
-use Rattle.cfi_ledger.specs.Loads.{IsAbsent, IsListed, IsSpent, IsUnprepared}
+use Rattle.cfi_ledger.specs.Loads.{IsAbsent, IsFlagged, IsListed, IsSpent, IsUnprepared}
+use Rattle.cfi_ledger.specs.Roster.{live_placed}
 use Rattle.cfi_loader.specs.inner.Loads.{LoadsTo, Refuses, load_fault_of}
 use Rattle.cfi_loader.proofs.BooksLemmas.{after_same}
 use Rattle.cfi_loader.proofs.LineLemmas.{line_again}
-use Rattle.cfi_loader.proofs.LoadLemmas.{places}
+use Rattle.cfi_loader.proofs.LiveLemmas.{joins_loaded, live_places, places}
+use Rattle.cfi_ledger.proofs.FlagLemmas.{listed_live, live_address}
 use Rattle.cfi_loader.proofs.ReserveLemmas.{reserved_kept}
-use Rattle.cfi_ledger.proofs.RosterLemmas.{listed_address, listed_loaded}
 use Rattle.cfi_loader.proofs.UpdateLemmas.{may_ask, after_load_refused}
 
 -- ---- faults
@@ -59,17 +61,18 @@ module _ (k : Key) (b : Books) (keeping : Keeping) (kept : BooksAgree k b keepin
 
   pub again_answers : (new : Books) (at : ℕ)
       → HasLine (asked_by who (LoadAgain number b.force.policy)) b.force.journal new.force.journal
-      → new ≡ with_journal new.force.journal b → IsListed b.force.roster number at → (answer : Loaded)
+      → new ≡ with_journal new.force.journal b → IsListed b.force.roster number at
+      → IsFlagged b.force.roster at true → (answer : Loaded)
       → answer.again ≡ true → answer.epoch ≡ b.force.epoch → answer.policy ≡ b.force.policy → (p : Placed)
       → IsFirstGlobal (get_or b.force.roster.placed at p) answer.address
       → LoadsTo k who number answer b new keeping keeping
-  again_answers new at has same listed answer again epoch policy p first =
+  again_answers new at has same listed live answer again epoch policy p first =
       let may = may_ask (ledger_of b keeping) who (Load number) (LoadAgain number b.force.policy) asks refl in
-      let is_loaded = listed_loaded b.force.roster kept.roster_is.many number at listed p in
+      let is_live = listed_live b.force kept.roster_is.many kept.flags_are number at listed live in
       let all : IsAfter k (asked_by who (LoadAgain number b.force.policy)) b (with_journal new.force.journal b) keeping
       keeping =
       after_same k b new.force.journal keeping kept who (LoadAgain number b.force.policy) has asks
-      (may, (record { loaded = is_loaded; force = refl }, refl)) refl refl refl in
+      (may, (record { live = is_live; force = refl }, refl)) refl refl refl in
       let to_new : IsAfter k (asked_by who (LoadAgain number b.force.policy)) b new keeping keeping =
       subst (λ (nb : Books). IsAfter k (asked_by who (LoadAgain number b.force.policy)) b nb keeping keeping) (sym same)
       all in
@@ -78,8 +81,8 @@ module _ (k : Key) (b : Books) (keeping : Keeping) (kept : BooksAgree k b keepin
             (sym (line_again number answer b.force.policy again policy)) to_new;
         epoch_is = epoch ∙ ap (λ (nb : Books). nb.force.epoch) (sym same);
         policy_is = policy ∙ ap (λ (nb : Books). nb.force.policy) (sym same);
-        address_is = subst (λ (nb : Books). IsAddressOf (loaded_in nb) number answer.address) (sym same)
-            (listed_address b.force.roster kept.roster_is.many number at listed p answer.address first);
+        address_is = subst (λ (nb : Books). IsAddressOf (live_in (end_of_books nb)) number answer.address) (sym same)
+            (live_address b.force kept.roster_is.many kept.flags_are number at listed live p answer.address first);
       }
 
   -- ---- a full loader
@@ -95,19 +98,36 @@ module _ (k : Key) (b : Books) (keeping : Keeping) (kept : BooksAgree k b keepin
       subst (λ (nb : Books). Refuses k who number loads.ModulesFull b nb keeping keeping) (sym same)
       (record { kept = all.kept; fault_is = record { told = all.told; says = tt } })
 
+  -- ---- a module that was retired
+
+  pub retired_refuses : (new : Books) → HasLine (asked_by who (LoadRetired number)) b.force.journal new.force.journal
+      → new ≡ with_journal new.force.journal b → HasGone (loaded_in b) (live_in (end_of_books b)) number
+      → Refuses k who number loads.Retired b new keeping keeping
+  retired_refuses new has same gone =
+      let may = may_ask (ledger_of b keeping) who (Load number) (LoadRetired number) asks refl in
+      let all = after_same k b new.force.journal keeping kept who (LoadRetired number) has asks (may, (gone, refl))
+      refl refl refl in
+      subst (λ (nb : Books). Refuses k who number loads.Retired b nb keeping keeping) (sym same)
+      (record { kept = all.kept; fault_is = record { told = all.told; says = tt } })
+
   -- ---- a module that does not join
 
   module _ (absent : IsAbsent b number) (new : Books) where
     there : (fault : JoinFault) (unprepared : IsUnprepared b number fault)
-        → IsJoinFault b.plan.code_words (placed_modules (loaded_in b)) unprepared.unplaced fault
+        → IsJoinFault b.plan.code_words (placed_modules (loaded_in b)) (placed_modules (live_in (end_of_books b)))
+        unprepared.unplaced fault
     there fault unprepared =
-        subst (λ (n : ℕ). IsJoinFault n (placed_modules (loaded_in b)) unprepared.unplaced fault)
-        kept.roster_is.code_words_are
-        (subst (λ (ps : List Placed). IsJoinFault b.force.roster.code_words ps unprepared.unplaced fault)
-        (sym (places k b keeping kept)) unprepared.why)
+        let placed : List Placed = b.force.roster.placed in
+        let live : List Placed = live_placed b.force.roster in
+        let m = unprepared.unplaced in
+        subst (λ (ls : List Placed). IsJoinFault b.plan.code_words (placed_modules (loaded_in b)) ls m fault)
+        (sym (live_places k b keeping kept))
+        (subst (λ (ps : List Placed). IsJoinFault b.plan.code_words ps live m fault) (sym (places k b keeping kept))
+        (subst (λ (n : ℕ). IsJoinFault n placed live m fault) kept.roster_is.code_words_are unprepared.why))
 
     refused_by_line : (fault : JoinFault) (told : FaultNumbers) → IsUnprepared b number fault
-        → numbers_of fault ≡ Some told → HasFault b.plan.code_words b.modules (loaded_in b) number told
+        → numbers_of fault ≡ Some told
+        → HasFault b.plan.code_words b.modules (loaded_in b) (live_in (end_of_books b)) number told
     refused_by_line fault told unprepared is = record {
       absent = record {
         unplaced = unprepared.unplaced;
@@ -135,8 +155,8 @@ module _ (k : Key) (b : Books) (keeping : Keeping) (kept : BooksAgree k b keepin
 
     numbered : (fault : JoinFault) → IsUnprepared b number fault → numbers_of fault ≡ None → fault ≢ Memory → ⊥
     numbered fault unprepared none some =
-        let has = has_numbers b.force.roster.code_words b.force.roster.placed unprepared.unplaced fault
-        unprepared.why some in
+        let has = has_numbers b.force.roster.code_words b.force.roster.placed (live_placed b.force.roster)
+        unprepared.unplaced fault unprepared.why some in
         no_numbers has.0 (sym none ∙ has.1)
 
     says_of : (fault : JoinFault) → IsUnprepared b number fault
@@ -206,15 +226,10 @@ module _ (k : Key) (b : Books) (keeping : Keeping) (kept : BooksAgree k b keepin
       → Refuses k who number loads.EpochsSpent b new keeping keeping
   spent_refuses absent new spent has same =
       let joins = spent.joins in
-      let there : Joins b.plan.code_words b.force.roster.placed joins.unplaced joins.placed =
-      subst (λ (n : ℕ). Joins n b.force.roster.placed joins.unplaced joins.placed) kept.roster_is.code_words_are
-      joins.joins
-      in
       let is_clean : IsClean b.plan b.modules (end_of_books b) number = record {
         absent = record { unplaced = joins.unplaced; is = joins.is; absent = absent.absent; room = absent.room };
         placed = joins.placed;
-        joins = subst (λ (ps : List Placed). Joins b.plan.code_words ps joins.unplaced joins.placed)
-            (sym (places k b keeping kept)) there;
+        joins = joins_loaded k b keeping kept joins.unplaced joins.placed joins.joins;
       } in
       let none : epoch_after k keeping ≡ MAX_EPOCH + 1 = omega (arith, spent.last, kept.ledger.told.epoch) in
       let all = after_load_refused k b keeping kept new.force.journal keeping who number EpochsSpent (λ _. refl)

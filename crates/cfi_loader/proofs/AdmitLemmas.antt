@@ -102,6 +102,7 @@ passes_kept k b keeping out quiets kept guests =
       layout_is = kept.layout_is;
       book_is = kept.book_is;
       image_is = kept.image_is;
+      flags_are = kept.flags_are;
       found_are = kept.found_are;
     }
 

@@ -63,6 +63,7 @@ module _ (k : Key) (b : Books) (j : Minutes) (keeping : Keeping) (kept : BooksAg
           layout_is = kept.layout_is;
           book_is = kept.book_is;
           image_is = kept.image_is;
+          flags_are = kept.flags_are;
           found_are = kept.found_are;
         };
         told = told;
@@ -100,6 +101,7 @@ module _ (k : Key) (b : Books) (j : Minutes) (keeping : Keeping) (kept : BooksAg
           layout_is = kept.layout_is;
           book_is = kept.book_is;
           image_is = kept.image_is ∙ ap (λ (all : Keeping). (last_of all.entries).image) (sym new_is);
+          flags_are = kept.flags_are;
           found_are = kept.found_are;
         };
         told = told;
@@ -157,12 +159,13 @@ module _ (k : Key) (b : Books) (j : Minutes) (keeping : Keeping) (kept : BooksAg
         kept = record {
           ledger = ledger_more k b.plan b.modules who (RefreshOk (b.force.epoch + 1)) (ledger_of b keeping)
               (ledger_of refreshed (grown_by again quiets keeping)) kept.ledger asks told
-              (policies_same b.plan (end_of_books b) kept.ledger.policies (end_of_books refreshed) refl refl) tells;
+              (policies_same b.plan (end_of_books b) kept.ledger.policies (b.force.epoch + 1)) tells;
           roster_is = kept.roster_is;
           filled = kept.filled;
           layout_is = kept.layout_is;
           book_is = kept.book_is;
           image_is = kept.image_is ∙ ap (λ (e : TableEntry). e.image) (sym (last_more keeping.entries again));
+          flags_are = kept.flags_are;
           found_are = kept.found_are;
         };
         told = told;

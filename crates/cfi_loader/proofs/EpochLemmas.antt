@@ -6,7 +6,7 @@ use Rattle.cfi_model.specs.Words.{no_entry}
 use Rattle.cfi_model.specs.declared.history.Entry.{Entry as TableEntry}
 use Rattle.cfi_plan.specs.declared.journal.Entry.{Entry}
 use Rattle.cfi_plan.specs.declared.journal.JournalLine.{JournalLine}
-use Rattle.cfi_plan.specs.declared.journal.JournalLine.TheVariants.{LoadOk, LoadAgain, LoadFull, LoadPlace, LoadVerify, LoadVersions, LoadEpochs, RefreshOk, RefreshVersions, RefreshEpochs}
+use Rattle.cfi_plan.specs.declared.journal.JournalLine.TheVariants.{LoadOk, LoadAgain, LoadFull, LoadPlace, LoadVerify, LoadVersions, LoadEpochs, LoadRetired, RefreshOk, RefreshVersions, RefreshEpochs, RetireOk, RetireNotLive, RetireInUse, RetireVersions, RetireEpochs}
 use Rattle.cfi_tables.specs.Keeping.{last_of}
 use Rattle.cfi_loader.specs.Epochs.{HavePoliciesOf, epoch_policies, epochs_with, last_policy_of, policy_put}
 use Rattle.cfi_loader.specs.Mark.{is_made}
@@ -21,8 +21,14 @@ none_put before (LoadPlace number fault) is = refl
 none_put before (LoadVerify number fault place) is = refl
 none_put before (LoadVersions number guest quiet) is = refl
 none_put before (LoadEpochs number) is = refl
+none_put before (LoadRetired number) is = refl
 none_put before (RefreshVersions guest quiet) is = refl
 none_put before RefreshEpochs is = refl
+none_put before (RetireOk number epoch policy) is = absurd (cc)
+none_put before (RetireNotLive number) is = refl
+none_put before (RetireInUse number user) is = refl
+none_put before (RetireVersions number guest quiet) is = refl
+none_put before (RetireEpochs number) is = refl
 
 one_more : (journal : List Entry) (entry : Entry)
     → epoch_policies (journal ++ entry ∷ []) ≡ epochs_with (epoch_policies journal) entry

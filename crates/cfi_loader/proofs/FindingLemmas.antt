@@ -16,7 +16,7 @@ use Rattle.cfi_loader.specs.inner.Loads.{Refuses}
 -- ---- other findings
 
 module _ (k : Key) (b new : Books) (same : new ≡ record b { found = new.found }) where
-  pub found_kept : (keeping : Keeping) → BooksAgree k b keeping → AreFindings b.modules b.force.roster new.found.items
+  pub found_kept : (keeping : Keeping) → BooksAgree k b keeping → AreFindings b.modules b.force.policy b.force.roster new.found.items
       → BooksAgree k new keeping
   found_kept keeping kept are =
       subst (λ (nb : Books). BooksAgree k nb keeping) (sym same) (record {
@@ -26,6 +26,7 @@ module _ (k : Key) (b new : Books) (same : new ≡ record b { found = new.found 
         layout_is = kept.layout_is;
         book_is = kept.book_is;
         image_is = kept.image_is;
+        flags_are = kept.flags_are;
         found_are = are;
       })
 
@@ -42,7 +43,7 @@ module _ (k : Key) (b new : Books) (same : new ≡ record b { found = new.found 
 
     -- or behind it
     pub refuses_then : (first : Books) → Refuses k who number fault first b before after
-        → AreFindings b.modules b.force.roster new.found.items → Refuses k who number fault first new before after
+        → AreFindings b.modules b.force.policy b.force.roster new.found.items → Refuses k who number fault first new before after
     refuses_then first is are = record {
       kept = found_kept after is.kept are;
       fault_is = subst
@@ -53,7 +54,7 @@ module _ (k : Key) (b new : Books) (same : new ≡ record b { found = new.found 
   -- a refusal by the books as they are noted is one by the books
   pub refuses_as_noted : (who : Who) (number : ℕ) (fault : LoadFault) (last : Books) (keeping : Keeping)
       → BooksAgree k b keeping → MayAskFor (ledger_of b keeping) who (Load number) → IsAbsent b number
-      → AreFindings b.modules b.force.roster new.found.items
+      → AreFindings b.modules b.force.policy b.force.roster new.found.items
       → (BooksAgree k new keeping → MayAskFor (ledger_of new keeping) who (Load number) → IsAbsent new number
       → Refuses k who number fault new last keeping keeping) → Refuses k who number fault b last keeping keeping
   refuses_as_noted who number fault last keeping kept asks absent are after =

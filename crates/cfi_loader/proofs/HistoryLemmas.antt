@@ -12,6 +12,7 @@ use Rattle.cfi_tables.specs.Views.{idle_tables}
 use Rattle.cfi_tables.proofs.TablesLemmas.{force_newest}
 use Rattle.cfi_valid.specs.FromLaw.{HasPolicies}
 use Rattle.cfi_valid.specs.Growth.{Continues}
+use Rattle.cfi_valid.specs.Journal.{members_of}
 use Rattle.cfi_loader.specs.Ledger.{Ledger, IsLedger}
 use Rattle.cfi_ledger.specs.Policies.{IsEntryOf}
 use Rattle.cfi_loader.specs.Told.{HasTold}
@@ -25,7 +26,7 @@ module _ (k : Key) (plan : Plan) (modules : List Module) (l : Ledger) (is : IsLe
       is.told.images (epoch - k.first) no_entry
       (omega (arith, known.least, known.most, force_newest t refl, is.told.tables.some))
 
-  pub have_policies : HasPolicies l.course.plan.code_words l.course.end.loaded (history_of t)
+  pub have_policies : HasPolicies l.course.plan.code_words (members_of l.course.end) (history_of t)
   have_policies = record {
     modules = λ epoch known. (entry_there epoch known).is.modules;
     images = λ epoch known. (entry_there epoch known).is.image;

@@ -1,6 +1,8 @@
 -- What a load of a module that joins answers, and what it leaves.
-use Rattle.std.proofs.Common.{◌≡◌, ℕ, ◌+◌, ◌-◌, ◌<◌, ◌++◌, false, List, [], ◌∷◌, length, get_or, Option, refl, sym, ap, subst, ◌∙◌, arith, length-append}
+use Rattle.std.proofs.Common.{◌≡◌, ℕ, ◌+◌, ◌-◌, ◌<◌, ◌++◌, Bool, true, false, List, [], ◌∷◌, length, get_or, Option, refl, sym, ap, subst, ◌∙◌, arith, length-append}
+use Rattle.std.specs.List.{slice_get}
 use Rattle.std.proofs.lemmas.List.{get_or_push}
+use Rattle.std.proofs.lemmas.Option.{slice_get_read}
 use Rattle.cfi_aux.specs.declared.placed.Placed.{Placed}
 use Rattle.cfi_plan.specs.declared.journal.JournalLine.{JournalLine}
 use Rattle.cfi_plan.specs.declared.journal.JournalLine.TheVariants.{LoadOk}
@@ -24,29 +26,29 @@ use Rattle.cfi_loader.specs.Results.{KeepsClasses, SaysOf, RefusesBy}
 use Rattle.cfi_loader.specs.Told.{MayAskFor}
 use Rattle.cfi_ledger.specs.Books.{committed, course_in, with_journal, with_roster}
 use Rattle.cfi_loader.specs.inner.Books.{ledger_of, BooksAgree, IsAfter}
-use Rattle.cfi_ledger.specs.Loads.{HasPrepared, IsAbsent, IsListed}
+use Rattle.cfi_ledger.specs.Loads.{HasPrepared, IsAbsent, IsFlagged, IsListed}
 use Rattle.cfi_ledger.specs.Opens.{IsFirstGlobal}
 use Rattle.cfi_loader.specs.inner.Loads.{LoadsTo, Refuses, load_fault_by, update_line}
-use Rattle.cfi_ledger.specs.Roster.{Roster, IsBookOfRoster, IsFilled, line_by}
+use Rattle.cfi_ledger.specs.Roster.{Roster, IsBookOfRoster, IsFilled, line_by, live_placed}
 use Rattle.cfi_loader.proofs.LineLemmas.{line_new, line_refused}
-use Rattle.cfi_loader.proofs.LoadLemmas.{places}
+use Rattle.cfi_loader.proofs.LiveLemmas.{flags_many, live_places}
+use Rattle.cfi_ledger.proofs.FlagLemmas.{live_address}
 use Rattle.cfi_loader.proofs.PrepareLemmas.{clean, load_made}
-use Rattle.cfi_ledger.proofs.JoinedLemmas.{joined_roster}
-use Rattle.cfi_ledger.proofs.RosterLemmas.{listed_address}
 use Rattle.cfi_loader.proofs.UpdateLemmas.{IsRight, after_load_refused}
 
 -- an image that keeps the class numbers of the books' keeps those of the image in force
 pub keeps_classes : (k : Key) (b new : Books) (before after : Keeping) (roster : Roster) (book : KeptImage)
     → BooksAgree k b before → BooksAgree k new after → new.force.roster ≡ roster → new.book ≡ book
-    → KeepsNumbers roster.placed b.book.image book.image → KeepsClasses (ledger_of b before) (ledger_of new after)
+    → KeepsNumbers (live_placed roster) b.book.image book.image → KeepsClasses (ledger_of b before) (ledger_of new after)
 keeps_classes k b new before after roster book mine theirs roster_is book_is keeps =
-    let of_new : KeepsNumbers new.force.roster.placed b.book.image new.book.image =
-    subst (λ (r : Roster). KeepsNumbers r.placed b.book.image new.book.image) (sym roster_is)
-    (subst (λ (x : KeptImage). KeepsNumbers roster.placed b.book.image x.image) (sym book_is) keeps) in
+    let live : List Placed = live_placed new.force.roster in
+    let of_new : KeepsNumbers live b.book.image new.book.image =
+    subst (λ (r : Roster). KeepsNumbers (live_placed r) b.book.image new.book.image) (sym roster_is)
+    (subst (λ (x : KeptImage). KeepsNumbers (live_placed roster) b.book.image x.image) (sym book_is) keeps) in
     subst (λ (ps : List Placed). KeepsNumbers ps (last_of before.entries).image (last_of after.entries).image)
-    (sym (places k new after theirs))
-    (subst (λ (i : Image). KeepsNumbers new.force.roster.placed i (last_of after.entries).image) mine.image_is
-    (subst (λ (i : Image). KeepsNumbers new.force.roster.placed b.book.image i) theirs.image_is of_new))
+    (sym (live_places k new after theirs))
+    (subst (λ (i : Image). KeepsNumbers live i (last_of after.entries).image) mine.image_is
+    (subst (λ (i : Image). KeepsNumbers live b.book.image i) theirs.image_is of_new))
 
 module _ (k : Key) (b : Books) (keeping : Keeping) (kept : BooksAgree k b keeping) (who : Who) (number : ℕ)
     (asks : MayAskFor (ledger_of b keeping) who (Load number)) where
@@ -102,15 +104,23 @@ module _ (k : Key) (b : Books) (keeping : Keeping) (kept : BooksAgree k b keepin
               ∙ ap (λ (l : ModuleLine). l.number)
               (get_or_push b.force.roster.lines last_line d (length roster.placed - 1) (omega (arith, long)));
         } in
-        let is_roster = joined_roster number (planned_name b.plan.modules number) (b.force.policy + 1)
-        prepared.unplaced b.force.roster roster prepared.joined b.plan kept.roster_is refl in
+        let flags_are : roster.flags ≡ b.force.roster.flags ++ true ∷ [] =
+        ap (λ (r : Roster). r.flags) prepared.joined.is in
+        let end : length roster.placed - 1 ≡ length b.force.roster.flags =
+        omega (arith, long, kept.roster_is.many, flags_many k b keeping kept) in
+        let live : IsFlagged roster (length roster.placed - 1) true =
+        ap (λ (bs : List Bool). slice_get bs (length roster.placed - 1)) flags_are
+        ∙ slice_get_read (b.force.roster.flags ++ true ∷ []) (length (b.force.roster.flags ++ true ∷ []))
+        (length roster.placed - 1) true refl (omega (arith, end, length-append b.force.roster.flags (true ∷ [])))
+        (sym (get_or_push b.force.roster.flags true true (length roster.placed - 1) (sym end))) in
         subst (λ (nb : Books). LoadsTo k who number answer b nb keeping after) (sym new_is) (record {
           all = subst (λ (l : JournalLine). IsAfter k (asked_by who l) b there keeping after)
               (sym (line_new number answer (b.force.epoch + 1) (b.force.policy + 1) again epoch_is policy_is)) with_after;
           epoch_is = epoch_is;
           policy_is = policy_is;
           address_is =
-              listed_address roster is_roster.many number (length roster.placed - 1) listed p answer.address first;
+              live_address there.force with_after.kept.roster_is.many with_after.kept.flags_are number
+              (length roster.placed - 1) listed live p answer.address first;
         })
 
     -- or it was refused, and the books have a line more

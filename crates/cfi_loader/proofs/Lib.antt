@@ -1,3 +1,5 @@
+pub mod NumberLemmas
+pub mod LiveLemmas
 pub mod JournalLemmas
 pub mod EpochLemmas
 pub mod TellLemmas
@@ -6,7 +8,7 @@ pub mod FindingLemmas
 pub mod BooksLemmas
 pub mod ReserveLemmas
 pub mod UpdateLemmas
-pub mod LoadLemmas
+pub mod ChangeLemmas
 pub mod PrepareLemmas
 pub mod LineLemmas
 pub mod OpeningLemmas
@@ -15,6 +17,7 @@ pub mod AdmitLemmas
 pub mod FitLemmas
 pub mod RefusalLemmas
 pub mod AddLemmas
+pub mod DepartLemmas
 pub mod JoiningLemmas
 pub mod ReadLemmas
 pub mod HistoryLemmas

@@ -1,5 +1,6 @@
 -- What a loader has at the start agrees.
-use Rattle.std.proofs.Common.{◌≡◌, ℕ, ◌<◌, ◌≤◌, ◌++◌, true, false, List, [], length, None, refl, sym, ap, subst, ◌∙◌, ⊎_elim, arith, replicate}
+use Rattle.std.proofs.Common.{◌≡◌, ℕ, ◌<◌, ◌≤◌, ◌++◌, Bool, true, false, List, [], ◌∷◌, length, map, None, refl, sym, ap, subst, ◌∙◌, ⊎_elim, arith, replicate, Result, Err}
+use Rattle.std.specs.Prelude.{IfErr}
 use Rattle.std.proofs.lemmas.Bool.{false≢true, cases_lt}
 use Rattle.std.proofs.lemmas.List.{get_or-replicate, get_or_past, length-replicate}
 use Rattle.std.proofs.lemmas.List.Elements.{All-nil, All-cons}
@@ -26,20 +27,23 @@ use Rattle.cfi_loader.specs.Ledger.{TellsOf}
 use Rattle.cfi_loader.specs.Epochs.{HavePoliciesOf}
 use Rattle.cfi_loader.specs.Mark.{AreMade, AreRefused}
 use Rattle.cfi_ledger.specs.Plans.{CanStart}
-use Rattle.cfi_loader.specs.Start.{IsStarted}
+use Rattle.cfi_loader.specs.Start.{IsStarted, Started}
 use Rattle.cfi_ledger.specs.Books.{course_in, end_of_books}
 use Rattle.cfi_loader.specs.inner.Books.{ledger_of, BooksAgree}
 use Rattle.cfi_ledger.specs.Entries.{AllEnter}
 use Rattle.cfi_ledger.specs.Finding.{AreFindings}
 use Rattle.cfi_ledger.specs.Journal.{Minutes}
-use Rattle.cfi_ledger.specs.Opening.{books_at, AreOpeningBooks}
+use Rattle.cfi_ledger.specs.Opening.{books_at, AreOpeningBooks, IsStartFault}
+use Rattle.cfi_ledger.specs.declared.fault.StartFault.{StartFault}
+use Rattle.cfi_ledger.specs.declared.fault.StartFault.TheVariants.{Memory}
 use Rattle.cfi_ledger.specs.Roster.{Roster, IsBookOfRoster, IsFilled}
 use Rattle.cfi_ledger.specs.Starts.{AreStarted, opened_state}
 use Rattle.cfi_ledger.proofs.EntryLemmas.{entry_of_all}
 use Rattle.cfi_ledger.proofs.FindingLemmas.{findings_none}
 use Rattle.cfi_ledger.proofs.PolicyLemmas.{policies_below}
 use Rattle.cfi_ledger.proofs.StartLemmas.{started_all}
-use Rattle.cfi_ledger.proofs.OpeningLemmas.{entries, journal_none, labels, places, policies, start_closed, start_loaded}
+use Rattle.cfi_ledger.proofs.FlagLemmas.{book_image}
+use Rattle.cfi_ledger.proofs.OpeningLemmas.{entries, journal_none, places, policies, start_book, start_closed, start_flags, start_loaded}
 
 -- ---- the start
 
@@ -60,8 +64,7 @@ module _ (plan : Plan) (modules : List Module) (can : CanStart plan modules) (r 
       entry_of_all (course_in first) (first_entry book.image) refl
       (policies_below plan (opened_state plan r) (policies plan modules can r all))
       (subst (AreLoaded plan.code_words) (sym (places plan modules can r all)) (start_loaded plan modules can r all))
-      (subst (λ (ps : List Placed). IsImage (DirectEdge ps) ps plan.code_words book.image)
-      (sym (places plan modules can r all)) (labels plan modules can r all book.image book_is.image))
+      (book_image first.force all.roster_is.many (start_flags plan modules can r all) plan all.roster_is book book_is)
 
   none : (guest : ℕ) → is_out (opened_keeping k).out guest ≡ false
   none guest = ⊎_elim
@@ -76,7 +79,8 @@ module _ (plan : Plan) (modules : List Module) (can : CanStart plan modules) (r 
   tells : TellsOf k (course_in first) (opened_keeping k)
   tells = record {
     tables = opened_are plan.code_words plan.versions plan.first book.image can.code_words can.versions.0
-        can.versions.1 can.first (start_closed plan modules can r all book.image book_is.image);
+        can.versions.1 can.first
+        (start_closed plan modules can r all book.image (start_book plan modules can r all book book_is));
     epoch = refl;
     policy = refl;
     images = All-cons (IsEntryOf (course_in first)) (first_entry book.image) [] is_first
@@ -107,7 +111,8 @@ module _ (plan : Plan) (modules : List Module) (can : CanStart plan modules) (r 
     layout_is = refl;
     book_is = book_is;
     image_is = refl;
-    found_are = subst (AreFindings modules r) (sym none_found) (findings_none modules r);
+    flags_are = start_flags plan modules can r all;
+    found_are = subst (AreFindings modules 0 r) (sym none_found) (findings_none modules 0 r);
   }
 
 -- ---- the books of a start
@@ -137,4 +142,12 @@ module _ (plan : Plan) (modules : List Module) (can : CanStart plan modules) (r 
   }
 
   pub first_closed : IsClosed plan.code_words b.book.image
-  first_closed = start_closed plan modules can r all b.book.image is.book_is.image
+  first_closed =
+      start_closed plan modules can r all b.book.image (start_book plan modules can r all b.book is.book_is)
+
+-- want of memory is a fault of any start
+pub no_memory : (plan : Plan) (modules : List Module) (made : Result Started StartFault)
+    → (fault : StartFault) × (made ≡ Err fault) × (fault ≡ Memory) → IfErr made (IsStartFault plan modules)
+no_memory plan modules made is =
+    subst (λ (r : Result Started StartFault). IfErr r (IsStartFault plan modules)) (sym is.1)
+    (subst (IsStartFault plan modules) (sym is.2) tt)

@@ -64,6 +64,7 @@ module _ (k : Key) (b : Books) (keeping : Keeping) (j : Minutes) (starved : Bool
     layout_is = kept.layout_is;
     book_is = kept.book_is;
     image_is = kept.image_is;
+    flags_are = kept.flags_are;
     found_are = kept.found_are;
   }
 

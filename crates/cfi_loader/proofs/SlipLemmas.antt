@@ -8,7 +8,7 @@ use Rattle.cfi_ledger.specs.Journal.{asked_by}
 use Rattle.cfi_ledger.specs.declared.books.Books.{Books}
 use Rattle.cfi_plan.specs.declared.journal.Entry.{Entry}
 use Rattle.cfi_plan.specs.declared.journal.JournalLine.{JournalLine}
-use Rattle.cfi_plan.specs.declared.journal.JournalLine.TheVariants.{LoadOk, LoadAgain, LoadFull, LoadPlace, LoadVerify, LoadVersions, LoadEpochs, RefreshOk, RefreshVersions, RefreshEpochs}
+use Rattle.cfi_plan.specs.declared.journal.JournalLine.TheVariants.{LoadOk, LoadAgain, LoadFull, LoadPlace, LoadVerify, LoadVersions, LoadEpochs, LoadRetired, RefreshOk, RefreshVersions, RefreshEpochs, RetireOk, RetireNotLive, RetireInUse, RetireVersions, RetireEpochs}
 use Rattle.cfi_plan.specs.declared.journal.Who.{Who}
 use Rattle.cfi_plan.specs.declared.journal.Who.TheVariants.{Script, Guest}
 use Rattle.cfi_slips.specs.Lines.{AreOf, line_for, lines_of}
@@ -83,9 +83,15 @@ out_same k mark (LoadPlace number fault) old new is = ap (λ (x : Keeping). x.ou
 out_same k mark (LoadVerify number fault place) old new is = ap (λ (x : Keeping). x.out) is
 out_same k mark (LoadVersions number guest quiet) old new is = ap (λ (x : Keeping). x.out) is.is
 out_same k mark (LoadEpochs number) old new is = ap (λ (x : Keeping). x.out) is
+out_same k mark (LoadRetired number) old new is = ap (λ (x : Keeping). x.out) is
 out_same k mark (RefreshOk epoch) old new is = ap (λ (x : Keeping). x.out) is
 out_same k mark (RefreshVersions guest quiet) old new is = ap (λ (x : Keeping). x.out) is.is
 out_same k mark RefreshEpochs old new is = ap (λ (x : Keeping). x.out) is
+out_same k mark (RetireOk number epoch policy) old new is = ap (λ (x : Keeping). x.out) is.1
+out_same k mark (RetireNotLive number) old new is = ap (λ (x : Keeping). x.out) is
+out_same k mark (RetireInUse number user) old new is = ap (λ (x : Keeping). x.out) is
+out_same k mark (RetireVersions number guest quiet) old new is = ap (λ (x : Keeping). x.out) is.is
+out_same k mark (RetireEpochs number) old new is = ap (λ (x : Keeping). x.out) is
 
 pub told_more : (k : Key) (who : Who) (line : JournalLine) (old new : Ledger) → HasTold k (asked_by who line) old new
     → HasMore (entries_by who (line ∷ [])) old new

@@ -3,7 +3,7 @@ use Rattle.std.proofs.Common.{◌≡◌, ◌≢◌, ℕ, ◌+◌, ◌<◌, ◌�
 use Rattle.std.proofs.lemmas.Bool.{cases_lt}
 use Rattle.cfi_model.specs.Tables.{IsUpdate}
 use Rattle.cfi_plan.specs.declared.journal.JournalLine.{JournalLine}
-use Rattle.cfi_plan.specs.declared.journal.JournalLine.TheVariants.{RefreshOk, RefreshVersions, RefreshEpochs, LoadVersions, LoadEpochs}
+use Rattle.cfi_plan.specs.declared.journal.JournalLine.TheVariants.{RefreshOk, RefreshVersions, RefreshEpochs, LoadVersions, LoadEpochs, RetireVersions, RetireEpochs}
 use Rattle.cfi_plan.specs.declared.journal.Who.{Who}
 use Rattle.cfi_plan.specs.declared.journal.Who.TheVariants.{Script, Guest}
 use Rattle.cfi_tables.specs.Faults.{epoch_after, FaultIs, IsFarBehind}
@@ -11,8 +11,8 @@ use Rattle.cfi_tables.specs.Keeping.{Keeping, entry_by, grown_by, last_of}
 use Rattle.cfi_tables.specs.Key.{Key}
 use Rattle.cfi_tables.specs.declared.fault.UpdateFault.{UpdateFault}
 use Rattle.cfi_tables.specs.declared.fault.UpdateFault.TheVariants.{EpochsSpent, VersionsSpent}
-use Rattle.cfi_valid.specs.Journal.{MayAsk, IsTooOld, IsOutOfEpochs, IsClean, is_load}
-use Rattle.cfi_valid.specs.Script.{Call, Load, Refresh}
+use Rattle.cfi_valid.specs.Journal.{MayAsk, IsTooOld, IsOutOfEpochs, IsClean, IsUnused, is_load}
+use Rattle.cfi_valid.specs.Script.{Call, Load, Refresh, Retire}
 use Rattle.cfi_word.specs.declared.limits.TheConstants.{MAX_EPOCH}
 use Rattle.cfi_word.specs.declared.lists.Image.{Image}
 use Rattle.cfi_ledger.specs.declared.books.Books.{Books}
@@ -25,6 +25,7 @@ use Rattle.cfi_ledger.specs.Books.{end_of_books, with_journal}
 use Rattle.cfi_ledger.specs.Force.{with_refresh}
 use Rattle.cfi_loader.specs.inner.Books.{ledger_of, BooksAgree, IsAfter}
 use Rattle.cfi_loader.specs.inner.Loads.{update_line}
+use Rattle.cfi_loader.specs.inner.Retirements.{refused_retirement}
 use Rattle.cfi_loader.proofs.BooksLemmas.{after_same, after_refused, after_refreshed}
 
 -- whoever asks for a load may
@@ -99,6 +100,20 @@ module _ (k : Key) (b : Books) (keeping : Keeping) (kept : BooksAgree k b keepin
         let may = may_ask (ledger_of b keeping) who (Load number) (LoadVersions number guest quiet) asks refl in
         after_refused k b j keeping kept who (LoadVersions number guest quiet) has asks guest quiet new
         (may, (clean, too_old guest quiet is.behind (versions_left guest quiet right), refl)) is.is is refl refl
+
+    -- a retirement
+    pub after_retirement_refused : (number : ℕ) (fault : UpdateFault) → IsRight k keeping fault
+        → FaultIs k (mark_by Script (Retire number)) keeping new fault
+        → HasLine (asked_by Script (refused_retirement number fault)) b.force.journal j
+        → MayAskFor (ledger_of b keeping) Script (Retire number) → IsUnused (end_of_books b) number
+        → IsAfter k (asked_by Script (refused_retirement number fault)) b told_there keeping new
+    after_retirement_refused number EpochsSpent right is has asks unused =
+        subst (IsAfter k (asked_by Script (RetireEpochs number)) b told_there keeping) (sym is.1)
+        (after_same k b j keeping kept Script (RetireEpochs number) has asks (tt, (unused, none_left is.0, refl)) refl
+        refl refl)
+    after_retirement_refused number (VersionsSpent guest quiet) right is has asks unused =
+        after_refused k b j keeping kept Script (RetireVersions number guest quiet) has asks guest quiet new
+        (tt, (unused, too_old guest quiet is.behind (versions_left guest quiet right), refl)) is.is is refl refl
 
 -- ---- a refresh that the keeper has made
 

@@ -4,10 +4,10 @@ use Rattle.std.specs.List.{fold}
 use Rattle.cfi_model.specs.declared.history.Entry.{Entry as TableEntry}
 use Rattle.cfi_plan.specs.declared.journal.Entry.{Entry}
 use Rattle.cfi_plan.specs.declared.journal.JournalLine.{JournalLine}
-use Rattle.cfi_plan.specs.declared.journal.JournalLine.TheVariants.{LoadOk, LoadAgain, LoadFull, LoadPlace, LoadVerify, LoadVersions, LoadEpochs, RefreshOk, RefreshVersions, RefreshEpochs}
+use Rattle.cfi_plan.specs.declared.journal.JournalLine.TheVariants.{LoadOk, LoadAgain, LoadFull, LoadPlace, LoadVerify, LoadVersions, LoadEpochs, LoadRetired, RefreshOk, RefreshVersions, RefreshEpochs, RetireOk, RetireNotLive, RetireInUse, RetireVersions, RetireEpochs}
 
--- the policy of the epoch that a line tells of, where the one before had this policy: a load has its own, a refresh has
--- the one before, and no other line tells of an epoch
+-- the policy of the epoch that a line tells of, where the one before had this policy: a load and a retirement have their
+-- own, a refresh has the one before, and no other line tells of an epoch
 abbrev pub policy_put : (before : ℕ) → JournalLine → List ℕ
 policy_put before (LoadOk number epoch policy) = policy ∷ []
 policy_put before (RefreshOk epoch) = before ∷ []
@@ -17,8 +17,14 @@ policy_put before (LoadPlace number fault) = []
 policy_put before (LoadVerify number fault place) = []
 policy_put before (LoadVersions number guest quiet) = []
 policy_put before (LoadEpochs number) = []
+policy_put before (LoadRetired number) = []
 policy_put before (RefreshVersions guest quiet) = []
 policy_put before RefreshEpochs = []
+policy_put before (RetireOk number epoch policy) = policy ∷ []
+policy_put before (RetireNotLive number) = []
+policy_put before (RetireInUse number user) = []
+policy_put before (RetireVersions number guest quiet) = []
+policy_put before (RetireEpochs number) = []
 
 -- the last of some policies
 abbrev pub last_policy_of : List ℕ → ℕ

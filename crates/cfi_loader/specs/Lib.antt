@@ -5,6 +5,7 @@ pub mod Ledger
 pub mod Told
 pub mod Start
 pub mod Results
+pub mod Retirements
 pub mod Passes
 pub mod Fitting
 pub mod inner

@@ -5,16 +5,18 @@ use Rattle.cfi_model.specs.declared.history.Entry.{Entry as TableEntry}
 use Rattle.cfi_model.specs.declared.history.Refusal.{Refusal}
 use Rattle.cfi_plan.specs.declared.journal.Entry.{Entry}
 use Rattle.cfi_plan.specs.declared.journal.JournalLine.{JournalLine}
-use Rattle.cfi_plan.specs.declared.journal.JournalLine.TheVariants.{LoadOk, LoadAgain, LoadFull, LoadPlace, LoadVerify, LoadVersions, LoadEpochs, RefreshOk, RefreshVersions, RefreshEpochs}
+use Rattle.cfi_plan.specs.declared.journal.JournalLine.TheVariants.{LoadOk, LoadAgain, LoadFull, LoadPlace, LoadVerify, LoadVersions, LoadEpochs, LoadRetired, RefreshOk, RefreshVersions, RefreshEpochs, RetireOk, RetireNotLive, RetireInUse, RetireVersions, RetireEpochs}
 use Rattle.cfi_plan.specs.declared.journal.Who.{Who}
 use Rattle.cfi_plan.specs.declared.journal.Who.TheVariants.{Script, Guest}
 use Rattle.cfi_word.specs.declared.limits.TheConstants.{GUESTS}
-use Rattle.cfi_valid.specs.Script.{Call, Load, Refresh, call_of}
-use Rattle.cfi_loader.specs.declared.mark.TheConstants.{REFRESH_MARK, GUEST_MARKS}
+use Rattle.cfi_valid.specs.Script.{Call, Load, Refresh, Retire, call_of}
+use Rattle.cfi_loader.specs.declared.mark.TheConstants.{REFRESH_MARK, GUEST_MARKS, RETIREMENT_MARKS}
 
--- the mark of a call: the module's number, with its guest's place above it where a guest asked
+-- the mark of a call: the module's number, with its guest's place above it where a guest asked, or with
+-- `RETIREMENT_MARKS` above it where it is retired
 abbrev pub mark_by : Who → Call → ℕ
 mark_by who Refresh = REFRESH_MARK
+mark_by who (Retire number) = RETIREMENT_MARKS + number
 mark_by Script (Load number) = number
 mark_by (Guest guest) (Load number) = number + GUEST_MARKS * (guest + 1)
 
@@ -38,9 +40,15 @@ is_made (LoadPlace number fault) = false
 is_made (LoadVerify number fault place) = false
 is_made (LoadVersions number guest quiet) = false
 is_made (LoadEpochs number) = false
+is_made (LoadRetired number) = false
 is_made (RefreshOk epoch) = true
 is_made (RefreshVersions guest quiet) = false
 is_made RefreshEpochs = false
+is_made (RetireOk number epoch policy) = true
+is_made (RetireNotLive number) = false
+is_made (RetireInUse number user) = false
+is_made (RetireVersions number guest quiet) = false
+is_made (RetireEpochs number) = false
 
 -- the marks of the updates that a journal tells of
 abbrev pub made_marks : (journal : List Entry) → List ℕ
@@ -71,9 +79,15 @@ spent_by mark (LoadPlace number fault) = None
 spent_by mark (LoadVerify number fault place) = None
 spent_by mark (LoadVersions number guest quiet) = Some (record { guest = guest; quiet = quiet; mark = mark })
 spent_by mark (LoadEpochs number) = None
+spent_by mark (LoadRetired number) = None
 spent_by mark (RefreshOk epoch) = None
 spent_by mark (RefreshVersions guest quiet) = Some (record { guest = guest; quiet = quiet; mark = mark })
 spent_by mark RefreshEpochs = None
+spent_by mark (RetireOk number epoch policy) = None
+spent_by mark (RetireNotLive number) = None
+spent_by mark (RetireInUse number user) = None
+spent_by mark (RetireVersions number guest quiet) = Some (record { guest = guest; quiet = quiet; mark = mark })
+spent_by mark (RetireEpochs number) = None
 
 -- what a line of the journal tells of one
 abbrev pub spent_in : Entry → Option Spent

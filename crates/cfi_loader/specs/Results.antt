@@ -16,9 +16,10 @@ use Rattle.cfi_tables.specs.declared.fault.UpdateFault.{UpdateFault}
 use Rattle.cfi_tables.specs.declared.fault.UpdateFault.TheVariants as updates
 use Rattle.cfi_valid.specs.Course.{Course}
 use Rattle.cfi_valid.specs.NumberedLine.{numbered_line}
+use Rattle.cfi_valid.specs.Journal.{live_in}
 use Rattle.cfi_valid.specs.Loaded.{placed_modules}
 use Rattle.cfi_loader.specs.declared.fault.LoadFault.{LoadFault}
-use Rattle.cfi_loader.specs.declared.fault.LoadFault.TheVariants.{ModulesFull, Place, Verify, EpochsSpent, VersionsSpent, Memory}
+use Rattle.cfi_loader.specs.declared.fault.LoadFault.TheVariants.{Retired, ModulesFull, Place, Verify, EpochsSpent, VersionsSpent, Memory}
 use Rattle.cfi_loader.specs.declared.loaded.Loaded.{Loaded}
 use Rattle.cfi_loader.specs.Ledger.{Ledger}
 use Rattle.cfi_loader.specs.Told.{HasTold, HasStarved}
@@ -37,12 +38,12 @@ pub record HasLoaded (k : Key) (who : Who) (number : ℕ) (answer : Loaded) (old
   pub told : HasTold k (asked_by who (loaded_line number answer)) old new
   pub epoch_is : answer.epoch ≡ new.course.end.epoch
   pub policy_is : answer.policy ≡ new.course.end.policy
-  pub address_is : IsAddressOf new.course.end.loaded number answer.address
+  pub address_is : IsAddressOf (live_in new.course.end) number answer.address
 
--- of what is loaded after a call, the image then in force keeps the class numbers of the one before
+-- of what is live after a call, the image then in force keeps the class numbers of the one before
 abbrev pub KeepsClasses : (old new : Ledger) → Type 0
 KeepsClasses old new =
-    KeepsNumbers (placed_modules new.course.end.loaded) (last_of old.keeping.entries).image
+    KeepsNumbers (placed_modules (live_in new.course.end)) (last_of old.keeping.entries).image
     (last_of new.keeping.entries).image
 
 -- ---- a load that was refused
@@ -54,6 +55,7 @@ fault_line number (Place fault) = option_map (numbered_line number) (place_numbe
 fault_line number (Verify fault) = option_map (numbered_line number) (verify_numbers fault)
 fault_line number EpochsSpent = Some (lines.LoadEpochs number)
 fault_line number (VersionsSpent guest quiet) = Some (lines.LoadVersions number guest quiet)
+fault_line number Retired = Some (lines.LoadRetired number)
 fault_line number Memory = None
 
 -- the lines that a load tells: one, and none where memory was missing
@@ -61,11 +63,11 @@ abbrev pub told_lines : (number : ℕ) → Result Loaded LoadFault → List Jour
 told_lines number (Ok answer) = loaded_line number answer ∷ []
 told_lines number (Err fault) = cons_option (fault_line number fault) []
 
--- the module of the number does not join those that are loaded, for this fault
+-- the module of the number does not join those that are loaded and live, for this fault
 pub record DoesNotJoin (c : Course) (number : ℕ) (fault : JoinFault) : Type 0 where
   pub unplaced : Module
   pub is : slice_get c.modules number ≡ Some unplaced
-  pub why : IsJoinFault c.plan.code_words (placed_modules c.end.loaded) unplaced fault
+  pub why : IsJoinFault c.plan.code_words (placed_modules c.end.loaded) (placed_modules (live_in c.end)) unplaced fault
 
 -- what a fault says of the module
 abbrev pub SaysOf : (c : Course) → (number : ℕ) → LoadFault → Type 0

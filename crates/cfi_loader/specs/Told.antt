@@ -50,7 +50,13 @@ KeepsAfter k mark (lines.LoadFull number) old new = new ≡ old
 KeepsAfter k mark (lines.LoadPlace number fault) old new = new ≡ old
 KeepsAfter k mark (lines.LoadVerify number fault place) old new = new ≡ old
 KeepsAfter k mark (lines.LoadEpochs number) old new = new ≡ old
+KeepsAfter k mark (lines.LoadRetired number) old new = new ≡ old
 KeepsAfter k mark lines.RefreshEpochs old new = new ≡ old
+KeepsAfter k mark (lines.RetireOk number epoch policy) old new = HasGrown policy mark old new
+KeepsAfter k mark (lines.RetireNotLive number) old new = new ≡ old
+KeepsAfter k mark (lines.RetireInUse number user) old new = new ≡ old
+KeepsAfter k mark (lines.RetireVersions number guest quiet) old new = IsRefused k mark guest quiet old new
+KeepsAfter k mark (lines.RetireEpochs number) old new = new ≡ old
 
 -- a line more
 pub record HasTold (k : Key) (entry : Entry) (old new : Ledger) : Type 0 where

@@ -7,13 +7,16 @@ use thiserror::Error;
 /// Why a module is not loaded: the first cause, in this order.
 #[derive(Debug, Drop, Error)]
 pub enum LoadFault {
+    /// The module was retired.
+    #[error("the module was retired")]
+    Retired,
     /// `MAX_LOADED` modules are loaded.
     #[error("no further module may be loaded")]
     ModulesFull,
     /// It does not fit at the next free place.
     #[error("{0}")]
     Place(PlaceFault),
-    /// Placed there, it does not verify against those that are loaded.
+    /// Placed there, it does not verify against those that are live.
     #[error("{0}")]
     Verify(VerifyFault),
     /// The epoch in force is `MAX_EPOCH`.

@@ -19,8 +19,9 @@ ghost use Rattle.cfi_tables.specs.Views.{idle_tables};
 ghost use Rattle.cfi_plan.specs.Bare.{bare_plan};
 ghost use Rattle.cfi_valid.specs.FromLaw.{HasPolicies};
 ghost use Rattle.cfi_valid.specs.Growth.{Continues};
-ghost use Rattle.cfi_valid.specs.Script.{Load, call_of};
-ghost use Rattle.cfi_loader.specs.Fitting.{LoadFits, ComesThrough, HasFewUpdates, HasVersion};
+ghost use Rattle.cfi_valid.specs.Journal.{members_of};
+ghost use Rattle.cfi_valid.specs.Script.{Load, Retire, call_of};
+ghost use Rattle.cfi_loader.specs.Fitting.{LoadFits, RetirementFits, ComesThrough, HasFewUpdates, HasVersion};
 ghost use Rattle.cfi_loader.specs.Ledger.{Ledger, IsLedger};
 ghost use Rattle.cfi_ledger.specs.Plans.{CanStart};
 ghost use Rattle.cfi_ledger.specs.Journal.{asked_by};
@@ -36,6 +37,15 @@ pub fn loads_that_fit_come_through()
         HasTold k (asked_by who line) old new → HasFewUpdates old.course → HasVersion line }
 {}
 
+/// So is a retirement that fits.
+pub fn retirements_that_fit_come_through()
+    ensures { (k : Key) (plan : Plan) (modules : List Module) (who : Who) (line : JournalLine)
+        (number : ℕ) (old new : Ledger) → IsLedger k plan modules old
+        → HasTold k (asked_by who line) old new → call_of line ≡ Retire number
+        → RetirementFits old.course number →
+        ComesThrough line }
+{}
+
 /// The course goes on with each call that is told.
 pub fn courses_go_on()
     ensures { (k : Key) (entry : Entry) (old new : Ledger) → HasTold k entry old new →
@@ -47,7 +57,7 @@ pub fn courses_go_on()
 pub fn histories_have_policies()
     ensures { (k : Key) (plan : Plan) (modules : List Module) (l : Ledger)
         → IsLedger k plan modules l →
-        HasPolicies l.course.plan.code_words l.course.end.loaded
+        HasPolicies l.course.plan.code_words (members_of l.course.end)
         (history_of (idle_tables k l.keeping)) }
 {}
 

@@ -14,13 +14,12 @@ ghost use Rattle.cfi_loader.specs.Results.{HasLoaded, IsLoadFault, KeepsClasses,
 ghost use Rattle.cfi_loader.specs.Told.{MayAskFor};
 ghost use Rattle.cfi_loader.specs.inner.Books.{BooksAgree, ledger_of};
 ghost use Rattle.cfi_ledger.specs.Journal.{HasLine, HasRoomFor};
-ghost use Rattle.cfi_valid.specs.declared.limits.TheConstants.{MAX_LOADED};
 ghost use Rattle.cfi_ledger.specs.Books.{committed};
 ghost use Rattle.cfi_ledger.specs.Finding.{AreFindings};
 ghost use Rattle.cfi_ledger.specs.Loads.{IsAbsent};
 ghost use Rattle.cfi_ledger.specs.Opens.{IsFirstGlobal};
 ghost use Rattle.cfi_ledger.specs.Plans.{CanStart};
-ghost use Rattle.cfi_word.specs.declared.limits.TheConstants.{MAX_EPOCH};
+ghost use Rattle.cfi_word.specs.declared.limits.TheConstants.{MAX_EPOCH, MAX_POLICY};
 ghost use Rattle.cfi_loader.specs.inner.Loads.{IsSamePlan, LoadsTo, Refuses};
 
 use crate::fault::LoadFault;
@@ -38,7 +37,7 @@ use cfi_word::limits::MAX_EPOCH;
 fn commit(books: &mut Books, candidate: Candidate, who: Who, number: u32) -> Loaded
     requires room { HasRoomFor who books.old.force.journal }
     requires left { books.old.force.epoch < MAX_EPOCH }
-    requires few { books.old.force.policy < MAX_LOADED }
+    requires few { books.old.force.policy < MAX_POLICY }
     requires some { 0 < length candidate.roster.placed }
     ensures line { HasLine
         (asked_by who (LoadOk number (books.old.force.epoch + 1) (books.old.force.policy + 1)))
@@ -67,7 +66,8 @@ fn refuse_last(books: &mut Books, who: Who, number: u32) -> LoadFault
     requires can { CanStart books.old.plan books.old.modules }
     requires known { number < length books.old.plan.modules }
     requires room { HasRoomFor who books.old.force.journal }
-    requires found { AreFindings books.old.modules books.old.force.roster books.old.found.items }
+    requires found { AreFindings books.old.modules books.old.force.policy books.old.force.roster
+        books.old.found.items }
     requires last { books.old.force.epoch ≡ MAX_EPOCH }
     ensures after { (k : Key) (keeping : Keeping) → BooksAgree k books.old keeping →
         MayAskFor (ledger_of books.old keeping) who (Load number) → IsAbsent books.old number →
@@ -173,6 +173,10 @@ fn load<N: TableName>(
         return Err(LoadFault::Memory);
     }
     match books.force.roster.prospect(number) {
+        Prospect::Retired(_) => {
+            books.tell(who, JournalLine::LoadRetired { module: number });
+            Err(LoadFault::Retired)
+        }
         Prospect::Again(at) => Ok(again(books, who, number, at)),
         Prospect::Full => {
             books.tell(who, JournalLine::LoadFull { module: number });
@@ -183,9 +187,9 @@ fn load<N: TableName>(
 }
 
 impl<N: LoaderName> Loader<N> {
-    /// Loads the module of this number of the plan: places and verifies it behind those that are loaded, makes the
-    /// image of all, in which classes keep their numbers, and the cells of all, and puts it in force with the next
-    /// policy, which each guest's QUIET word has admitted. A module that is loaded answers at once.
+    /// Loads the module of this number of the plan: places it behind those that are loaded and verifies it against the
+    /// live ones, makes the image of these, in which classes keep their numbers, and the cells of all, and puts it in
+    /// force with the next policy, which each guest's QUIET word has admitted. A module that is live answers at once.
     ///
     /// Each answer but `Memory` adds one line to the journal. A refusal leaves the tables, the code and the modules as
     /// they were; all memory is taken before the first word is stored, and want of it marks the loader starved. The

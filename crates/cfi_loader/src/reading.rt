@@ -3,6 +3,7 @@
 ghost use Rattle.std.specs.Prelude.{◌≡◌, ℕ, Some, IfSome, IfNone, map, option_map, slice_get};
 ghost use Rattle.cfi_modules.specs.Fills.{fills_of};
 ghost use Rattle.cfi_valid.specs.Guests.{GuestBegins};
+ghost use Rattle.cfi_valid.specs.Journal.{members_of};
 ghost use Rattle.cfi_valid.specs.Loaded.{placed_modules, module_line_of, with_cells, Filled};
 ghost use Rattle.cfi_valid.specs.Script.{made_by_script, script_calls};
 ghost use Rattle.cfi_ledger.specs.Calls.{call_due};
@@ -18,7 +19,7 @@ use cfi_unit::Fill;
 use cfi_values::Items;
 
 impl<N: LoaderName> Loader<N> {
-    /// The journal: a line for each load and each refresh, but those that found no memory.
+    /// The journal: a line for each load, each refresh and each retirement, but those that found no memory.
     ///
     /// `law`: what the loader keeps at every moment.
     pub fn journal(&self) -> &[Entry]
@@ -59,12 +60,12 @@ impl<N: LoaderName> Loader<N> {
     /// The data of the loaded modules, in load order, and then the cells at the policy in force.
     pub fn fills(&self) -> &[Fill]
         ensures { let end = self.now.course.end in result.now
-            ≡ with_cells Filled end.policy end.loaded (fills_of (placed_modules end.loaded)) }
+            ≡ with_cells Filled end.policy (members_of end) (fills_of (placed_modules end.loaded)) }
     {
         self.books.force.roster.fills()
     }
 
-    /// Whether memory was missing for a load.
+    /// Whether memory was missing for a load or a retirement.
     pub fn starved(&self) -> bool
         ensures { result ≡ self.now.starved }
     {

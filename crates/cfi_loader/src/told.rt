@@ -4,7 +4,7 @@ ghost use Rattle.std.specs.Prelude.{◌≡◌, true};
 ghost use Rattle.cfi_ledger.specs.Books.{with_journal, with_roster};
 ghost use Rattle.cfi_ledger.specs.Finding.{AreFindings};
 ghost use Rattle.cfi_ledger.specs.Journal.{HasLine, HasRoomFor, asked_by};
-ghost use Rattle.cfi_ledger.specs.Loads.{IsAbsent, IsListed, IsSpent, IsUnprepared};
+ghost use Rattle.cfi_ledger.specs.Loads.{IsAbsent, IsFlagged, IsListed, IsSpent, IsUnprepared};
 ghost use Rattle.cfi_loader.specs.Told.{MayAskFor};
 ghost use Rattle.cfi_loader.specs.inner.Books.{BooksAgree, ledger_of};
 ghost use Rattle.cfi_loader.specs.inner.Loads.{IsSamePlan, LoadsTo, Refuses, load_fault_by, update_line};
@@ -20,10 +20,11 @@ use cfi_modules::JoinFault;
 use cfi_plan::{JournalLine, Who};
 use cfi_tables::UpdateFault;
 
-/// The answer where the module stands at this place in load order.
+/// The answer where the module is live, at this place in load order.
 pub(crate) fn again(books: &mut Books, who: Who, number: u32, at: usize) -> Loaded
     requires room { HasRoomFor who books.old.force.journal }
     requires listed { IsListed books.old.force.roster number at }
+    requires live { IsFlagged books.old.force.roster at true }
     ensures after { (k : Key) (keeping : Keeping) → BooksAgree k books.old keeping →
         MayAskFor (ledger_of books.old keeping) who (Load number) →
         LoadsTo k who number result books.old books.new keeping keeping }
@@ -103,7 +104,8 @@ pub(crate) fn refuse_unjoined(
     fault: JoinFault,
 ) -> LoadFault
     requires room { HasRoomFor who books.old.force.journal }
-    requires found { AreFindings books.old.modules books.old.force.roster books.old.found.items }
+    requires found { AreFindings books.old.modules books.old.force.policy books.old.force.roster
+        books.old.found.items }
     requires unprepared { IsUnprepared books.old number fault }
     ensures after { (k : Key) (keeping : Keeping) → BooksAgree k books.old keeping →
         MayAskFor (ledger_of books.old keeping) who (Load number) → IsAbsent books.old number →

@@ -14,7 +14,7 @@ use Rattle.cfi_model.specs.Shows.{End, AsksUnder, IsReady, IsStep}
 use Rattle.cfi_model.specs.State.{State, register, displaced}
 use Rattle.cfi_model.proofs.HaltLemmas.{only_checks_halt}
 use Rattle.cfi_valid.specs.FromLaw.{HasPolicies}
-use Rattle.cfi_valid.specs.Loaded.{LoadedModule}
+use Rattle.cfi_valid.specs.Loaded.{Members}
 use Rattle.cfi_valid.proofs.LawLemmas.{check_given}
 use Rattle.cfi_top.specs.Edges.{IsChecked, IsAllowedEdge, IsForbiddenEdge}
 use Rattle.cfi_top.specs.Headline.{IsHalted, KeepsPolicy}
@@ -28,8 +28,8 @@ through false o stop e = absurd (cc)
 never : (o : Option Stop) (stop : Stop) → o ≡ Some stop → o ≡ None → ⊥
 never o stop halts goes = absurd (cc)
 
-module _ (h : History) (code : List ℕ) (loaded : List LoadedModule) (end : End) (old new : State)
-    (known : IsHistory h code) (policies : HasPolicies (length code) loaded h) (ready : IsReady h old)
+module _ (h : History) (code : List ℕ) (members : Members) (end : End) (old new : State)
+    (known : IsHistory h code) (policies : HasPolicies (length code) members h) (ready : IsReady h old)
     (p : IsStep h code end old new) where
   -- the check that stands there is the unit that was run
   module _ (slot target : ℕ) (c : IsChecked code old slot target) where
@@ -45,7 +45,7 @@ module _ (h : History) (code : List ℕ) (loaded : List LoadedModule) (end : End
     effect_is : new ≡ effect check (h.policy p.epoch) (allows_at h p.epoch) p.reply old
     effect_is = p.is ∙ ap (λ u. effect u (h.policy p.epoch) (allows_at h p.epoch) p.reply old) unit_is
 
-    allowed_edge : new.stop ≡ None → IsAllowedEdge h loaded end slot to old new
+    allowed_edge : new.stop ≡ None → IsAllowedEdge h members end slot to old new
     allowed_edge goes =
         let passed : (is_in_code to && allows_at h p.epoch slot to) ≡ true =
         through (is_in_code to && allows_at h p.epoch slot to) old.stop (Halt to)
@@ -58,7 +58,7 @@ module _ (h : History) (code : List ℕ) (loaded : List LoadedModule) (end : End
             tried = subst (λ u. AsksUnder h p.epoch end u old) unit_is p.under both.0;
           };
           inside = both.0;
-          allowed = (check_given h code loaded end old new known policies ready p c.link c.rs1 c.imm slot unit_is both.0).0
+          allowed = (check_given h code members end old new known policies ready p c.link c.rs1 c.imm slot unit_is both.0).0
               both.1;
           goes = ap (λ s. s.pc) effect_is ∙ ap (λ b. cond b to old.pc) passed;
           logged = ap (λ s. s.log) effect_is
@@ -66,7 +66,7 @@ module _ (h : History) (code : List ℕ) (loaded : List LoadedModule) (end : End
         }
 
     forbidden_edge : new.stop ≡ Some (Halt to) → is_in_code to ≡ true → old.stop ≡ None
-        → IsForbiddenEdge h loaded end slot to
+        → IsForbiddenEdge h members end slot to
     forbidden_edge halts inside going = record {
       asked = record {
         epoch = p.epoch;
@@ -74,7 +74,7 @@ module _ (h : History) (code : List ℕ) (loaded : List LoadedModule) (end : End
         tried = subst (λ u. AsksUnder h p.epoch end u old) unit_is p.under inside;
       };
       forbidden = λ allowed.
-          let given = check_given h code loaded end old new known policies ready p c.link c.rs1 c.imm slot unit_is inside in
+          let given = check_given h code members end old new known policies ready p c.link c.rs1 c.imm slot unit_is inside in
           let open_to : allows_at h p.epoch slot to ≡ true = given.1 allowed in
           let stays : new.stop ≡ old.stop =
           ap (λ s. s.stop) effect_is
@@ -83,7 +83,7 @@ module _ (h : History) (code : List ℕ) (loaded : List LoadedModule) (end : End
           absurd (never new.stop (Halt to) halts (stays ∙ going));
     }
 
-  halted : (target : ℕ) → new.stop ≡ Some (Halt target) → IsHalted h code loaded end old target
+  halted : (target : ℕ) → new.stop ≡ Some (Halt target) → IsHalted h code members end old target
   halted target halts =
       let f : IsForbidden h code end old target = only_checks_halt h code end old new p target halts in
       let c : IsChecked code old f.slot target =
@@ -92,15 +92,15 @@ module _ (h : History) (code : List ℕ) (loaded : List LoadedModule) (end : End
         slot = f.slot;
         checked = c;
         forbids = λ inside.
-            subst (IsForbiddenEdge h loaded end f.slot) (sym f.is)
+            subst (IsForbiddenEdge h members end f.slot) (sym f.is)
             (forbidden_edge f.slot target c (subst (λ t. new.stop ≡ Some (Halt t)) f.is halts)
             (subst (λ t. is_in_code t ≡ true) f.is inside) p.going);
       }
 
-  pub keeps_policy : KeepsPolicy h code loaded end old new
+  pub keeps_policy : KeepsPolicy h code members end old new
   keeps_policy = record {
     step = p;
     goes = λ slot target c goes.
-        subst (λ t. IsAllowedEdge h loaded end slot t old new) (sym c.is) (allowed_edge slot target c goes);
+        subst (λ t. IsAllowedEdge h members end slot t old new) (sym c.is) (allowed_edge slot target c goes);
     halts = halted;
   }

@@ -30,7 +30,7 @@ files name = Some hello_bytes
 
 -- ---- its module joins
 
-joined : Joins MAX_CODE_WORDS [] hello_module hello_placed
+joined : Joins MAX_CODE_WORDS [] [] hello_module hello_placed
 joined = record { behind = is_placed; verified = verified }
 
 none : (placed : List Placed) → length placed ≡ 0 → placed ≡ []
@@ -43,9 +43,9 @@ unjoined zero fault some first =
     let here = first.is in
     let same : hello_module ≡ first.unplaced = cc in
     let before : first.before ≡ [] = none first.before first.order.count in
-    some (joins_or_refused MAX_CODE_WORDS [] hello_module hello_placed fault joined
-    (subst (λ (ms : List Placed). IsJoinFault MAX_CODE_WORDS ms hello_module fault) before
-    (subst (λ (m : Module). IsJoinFault MAX_CODE_WORDS first.before m fault) (sym same) first.why)))
+    some (joins_or_refused MAX_CODE_WORDS [] [] hello_module hello_placed fault joined
+    (subst (λ (ms : List Placed). IsJoinFault MAX_CODE_WORDS ms ms hello_module fault) before
+    (subst (λ (m : Module). IsJoinFault MAX_CODE_WORDS first.before first.before m fault) (sym same) first.why)))
 unjoined (suc number) fault some first = let here = first.line_is in absurd (cc)
 
 lost : (guest : ℕ) → IsFirstLost bare_plan (hello_module ∷ []) guest → ⊥

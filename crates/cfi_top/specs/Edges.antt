@@ -7,7 +7,7 @@ use Rattle.cfi_model.specs.History.{History, IsEpoch}
 use Rattle.cfi_model.specs.Log.{picked}
 use Rattle.cfi_model.specs.Shows.{End, IsTriedIn, Stands}
 use Rattle.cfi_model.specs.State.{State, register, displaced}
-use Rattle.cfi_valid.specs.Loaded.{LoadedModule, AllowedAt}
+use Rattle.cfi_valid.specs.Loaded.{Members, AllowedAt}
 
 -- a check stands where the machine is, and leads from its slot to the target
 pub record IsChecked (code : List ℕ) (s : State) (slot target : ℕ) : Type 0 where
@@ -24,15 +24,15 @@ pub record IsAsked (h : History) (end : End) (slot target : ℕ) : Type 0 where
   pub tried : IsTriedIn h epoch slot target end
 
 -- the check has gone to its target, a word of the code, which the policy allows to its slot; the policy is logged
-pub record IsAllowedEdge (h : History) (loaded : List LoadedModule) (end : End) (slot target : ℕ) (old new : State)
+pub record IsAllowedEdge (h : History) (members : Members) (end : End) (slot target : ℕ) (old new : State)
     : Type 0 where
   pub asked : IsAsked h end slot target
   pub inside : is_in_code target ≡ true
-  pub allowed : AllowedAt loaded (h.policy asked.epoch) slot target
+  pub allowed : AllowedAt members (h.policy asked.epoch) slot target
   pub goes : new.pc ≡ target
   pub logged : new.log ≡ picked (h.policy asked.epoch) old.log
 
 -- the policy forbids the edge; a target that is no word of the code is in none
-pub record IsForbiddenEdge (h : History) (loaded : List LoadedModule) (end : End) (slot target : ℕ) : Type 0 where
+pub record IsForbiddenEdge (h : History) (members : Members) (end : End) (slot target : ℕ) : Type 0 where
   pub asked : IsAsked h end slot target
-  pub forbidden : ¬ AllowedAt loaded (h.policy asked.epoch) slot target
+  pub forbidden : ¬ AllowedAt members (h.policy asked.epoch) slot target

@@ -11,6 +11,7 @@ use Rattle.cfi_model_law.specs.Window.{HasRunInForce}
 use Rattle.cfi_model_law.specs.Moments.{Fetches, HasEntered, StoresInside, at_moment, fetched}
 use Rattle.cfi_guest_part.specs.Ran.{IsHistoryOf, IsRunOf}
 use Rattle.cfi_report.specs.declared.report.GuestPart.{GuestPart}
+use Rattle.cfi_valid.specs.Journal.{members_of}
 use Rattle.cfi_valid.specs.Course.{Course}
 use Rattle.cfi_valid.specs.Valid.{course_of}
 use Rattle.cfi_top.specs.Headline.{KeepPolicies}
@@ -34,7 +35,7 @@ OfEachGuest run Holds =
 -- the policy that it asks allows, and only a check halts, before an edge which that policy forbids
 abbrev pub GuestsKeepPolicies : Conclusion → Type 0
 GuestsKeepPolicies run = OfEachGuest run (λ c number part ran.
-    KeepPolicies c.history c.code c.valid.end.loaded (ends_along ran.run.start (takes_in ran.run.came)) ran.run.start.base ran.state
+    KeepPolicies c.history c.code (members_of c.valid.end) (ends_along ran.run.start (takes_in ran.run.came)) ran.run.start.base ran.state
     × Shows c.history c.code ran.retries ran.state (run_of ran.run.start (takes_in ran.run.came)))
 
 -- What it loads, from first to last, are the words of the tables at the moments of its loads. In the window of each

@@ -12,7 +12,8 @@ use Rattle.cfi_loader.specs.Ledger.{Ledger, IsLedger}
 use Rattle.cfi_loader.specs.Told.{HasTold}
 use Rattle.cfi_ledger.specs.Finding.{AreFindings}
 use Rattle.cfi_ledger.specs.Books.{course_in}
-use Rattle.cfi_ledger.specs.Roster.{IsBookOfRoster, IsFilled, IsRosterOf}
+use Rattle.cfi_ledger.specs.Roster.{IsBookOfRoster, IsFilled, IsRosterOf, members_in_roster}
+use Rattle.cfi_valid.specs.Loaded.{live_flags}
 
 -- what a loader keeps, as clauses see it
 abbrev pub ledger_of : Books → Keeping → Ledger
@@ -31,7 +32,8 @@ pub record BooksAgree (k : Key) (b : Books) (keeping : Keeping) : Type 0 where
   pub layout_is : b.layout ≡ b.plan.code_words
   pub book_is : IsBookOfRoster b.force.roster b.book
   pub image_is : b.book.image ≡ (last_of keeping.entries).image
-  pub found_are : AreFindings b.modules b.force.roster b.found.items
+  pub flags_are : b.force.roster.flags ≡ live_flags b.force.policy (members_in_roster b.force.roster)
+  pub found_are : AreFindings b.modules b.force.policy b.force.roster b.found.items
 
 -- a line more, and all of it agrees again
 pub record IsAfter (k : Key) (entry : Entry) (old new : Books) (before after : Keeping) : Type 0 where

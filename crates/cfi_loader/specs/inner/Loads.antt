@@ -16,7 +16,8 @@ use Rattle.cfi_loader.specs.declared.loaded.Loaded.{Loaded}
 use Rattle.cfi_ledger.specs.Journal.{asked_by}
 use Rattle.cfi_loader.specs.Results.{loaded_line, IsLoadFault}
 use Rattle.cfi_ledger.specs.Opens.{IsAddressOf}
-use Rattle.cfi_ledger.specs.Books.{loaded_in}
+use Rattle.cfi_ledger.specs.Books.{end_of_books}
+use Rattle.cfi_valid.specs.Journal.{live_in}
 use Rattle.cfi_loader.specs.inner.Books.{ledger_of, BooksAgree, IsAfter}
 
 -- ---- faults
@@ -50,7 +51,7 @@ pub record LoadsTo (k : Key) (who : Who) (number : ℕ) (answer : Loaded) (old n
   pub all : IsAfter k (asked_by who (loaded_line number answer)) old new before after
   pub epoch_is : answer.epoch ≡ new.force.epoch
   pub policy_is : answer.policy ≡ new.force.policy
-  pub address_is : IsAddressOf (loaded_in new) number answer.address
+  pub address_is : IsAddressOf (live_in (end_of_books new)) number answer.address
 
 -- one that was refused
 pub record Refuses (k : Key) (who : Who) (number : ℕ) (fault : LoadFault) (old new : Books) (before after : Keeping)

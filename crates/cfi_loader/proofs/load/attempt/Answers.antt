@@ -17,16 +17,18 @@ use Rattle.cfi_loader.proofs.JoiningLemmas.{keeps_classes, made_answers, turned_
 use Rattle.cfi_loader.proofs.FindingLemmas.{refuses_then}
 use Rattle.cfi_loader.proofs.PrepareLemmas.{load_update}
 use Rattle.cfi_loader.proofs.UpdateLemmas.{epoch_left, not_spent, right_fault}
+use Rattle.cfi_ledger.specs.Books.{end_of_books}
+use Rattle.cfi_ledger.proofs.PolicyLemmas.{policies_left}
 use Rattle.cfi_loader.proofs.load.attempt.Goals as goal
 
 pub prepare-requires-clause-few : goal.prepare-requires-clause-few
 prepare-requires-clause-few g c =
-    omega (arith, c.requires.absent.room, c.requires.kept.ledger.policies.count)
+    policies_left c.args.books.now.plan (end_of_books c.args.books.now) c.requires.kept.ledger.policies
 
 -- what was found is true of the books as they were
 pub refuse_unjoined-requires-clause-found : goal.refuse_unjoined-requires-clause-found
 refuse_unjoined-requires-clause-found g c =
-    subst (λ (nb : Books). AreFindings nb.modules nb.force.roster nb.found.items) (sym c.in-Err.ensures.same)
+    subst (λ (nb : Books). AreFindings nb.modules nb.force.policy nb.force.roster nb.found.items) (sym c.in-Err.ensures.same)
     c.requires.kept.found_are
 
 pub refuse_unjoined-requires-clause-unprepared : goal.refuse_unjoined-requires-clause-unprepared
@@ -118,7 +120,7 @@ keep_joining-requires-clause-found g c =
     let back = turned_down k c.args.books.now c.args.keeper.now c.requires.kept c.args.who c.args.number c.requires.asks
     c.requires.absent c.prepare.new.self c.turn_down-fault.new.books p.lent c.in-Ok.candidate.roster p.ok
     c.update.new.self c.in-Ok.candidate.before p.before c.turn_down-fault.ensures.same in
-    subst (λ (nb : Books). AreFindings nb.modules nb.force.roster nb.found.items) (sym back) c.requires.kept.found_are
+    subst (λ (nb : Books). AreFindings nb.modules nb.force.policy nb.force.roster nb.found.items) (sym back) c.requires.kept.found_are
 
 pub keep_joining-requires-clause-joins : goal.keep_joining-requires-clause-joins
 keep_joining-requires-clause-joins g c =

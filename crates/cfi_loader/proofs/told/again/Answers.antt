@@ -14,7 +14,7 @@ returns-clause-after c = λ k keeping kept asks.
     subst (λ (nb : Books). IsFirstGlobal (get_or nb.force.roster.placed c.args.at p) c.address_at.result) same
     (c.address_at.ensures p) in
     again_answers k b keeping kept c.args.who c.args.number asks c.tell.new.self c.args.at c.tell.ensures.line same
-    c.requires.listed (record {
+    c.requires.listed c.requires.live (record {
       again = true;
       epoch = c.tell.new.self.force.epoch;
       policy = b.force.policy;

@@ -1,5 +1,5 @@
-use Rattle.std.proofs.Common.{◌+◌, ◌≤◌, ◌++◌, ℕ, List, drop, All, sym, ap, subst, ◌∙◌}
-use Rattle.cfi_ledger.specs.Force.{starts_in}
+use Rattle.std.proofs.Common.{◌≤◌, ◌++◌, ℕ, List, drop, All, sym, ap, subst, ◌∙◌}
+use Rattle.cfi_ledger.specs.Force.{count_by_policy}
 use Rattle.cfi_ledger.specs.Opens.{given_reply}
 use Rattle.cfi_ledger.proofs.DueLemmas.{fills_due, given_inside, given_policy}
 use Rattle.cfi_model.specs.Data.{LiesInData}
@@ -26,7 +26,8 @@ answer-requires g c =
     let address = c.args.loaded.now.address in
     let fills : List Fill = c.due-fills.result.now in
     let lies : All LiesInData fills = subst (All LiesInData) (sym c.due-fills.ensures)
-    (fills_lie g.N.TableName.key a.books a.keeper c.self.invariant.kept (starts_in a.books.force + given_by c.log.result.now)) in
+    (fills_lie g.N.TableName.key a.books a.keeper c.self.invariant.kept
+    (count_by_policy (given_by c.log.result.now) a.books.force.roster)) in
     let same = sym (given_policy address policy fills) in
     subst (λ (r : Reply). MayAnswer r guest) (sym c.open_answer.ensures) (record {
       waiting = c.requires.waits;
@@ -49,9 +50,9 @@ returns g c =
     let f = a.books.force in
     let kept = c.self.invariant.kept in
     let due = c.due-fills.ensures
-    ∙ ap (λ (l : List Log). drop (starts_in f + given_by l) (fills_of f.roster.placed) ++ f.roster.cells)
+    ∙ ap (λ (l : List Log). drop (count_by_policy (given_by l) f.roster) (fills_of f.roster.placed) ++ f.roster.cells)
     c.log.ensures.entries
-    ∙ sym (fills_due a.books.plan f kept.ledger.policies kept.roster_is kept.filled (given_by log)) in
+    ∙ sym (fills_due a.books.plan f kept.ledger.policies kept.roster_is kept.flags_are kept.filled (given_by log)) in
     c.answer.ensures
     ∙ ap (serve_of guest) (c.open_answer.ensures ∙ ap (given_reply address a.books.force.policy) due)
     ∙ ap (λ (l : Ledger). serve_of guest (reply_with l log address)) c.self.view_is

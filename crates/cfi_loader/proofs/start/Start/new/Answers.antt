@@ -3,7 +3,8 @@ use Rattle.cfi_ledger.specs.declared.books.Books.{Books}
 use Rattle.cfi_model.specs.Closed.{IsClosed}
 use Rattle.cfi_tables.specs.Key.{key_by}
 use Rattle.cfi_word.specs.declared.lists.Image.{Image}
-use Rattle.cfi_loader.proofs.OpeningLemmas.{first_kept, first_started, first_closed}
+use Rattle.std.proofs.lemmas.Result.{err_from_is_err_and}
+use Rattle.cfi_loader.proofs.OpeningLemmas.{first_kept, first_started, first_closed, no_memory}
 use Rattle.cfi_loader.proofs.start.Start.new.Goals as goal
 
 -- the layout is the plan's
@@ -36,3 +37,12 @@ returns-clause-ok c =
     let opened = c.in_ok-books.ensures.ok in
     first_started c.args.plan.now c.args.modules c.requires opened.roster opened.started c.in_ok-books.books
     opened.books c.in_ok-blank.blank c.in_ok-pad.pad
+
+-- there is no memory
+pub returns-in_err-blank-clause-fault : goal.returns-in_err-blank-clause-fault
+returns-in_err-blank-clause-fault c = no_memory c.args.plan.now c.args.modules c.from_residual-in_err-blank.result
+    (err_from_is_err_and c.from_residual-in_err-blank.result c.from_residual-in_err-blank.ensures.1)
+
+pub returns-in_err-pad-clause-fault : goal.returns-in_err-pad-clause-fault
+returns-in_err-pad-clause-fault c = no_memory c.args.plan.now c.args.modules c.from_residual-in_err-pad.result
+    (err_from_is_err_and c.from_residual-in_err-pad.result c.from_residual-in_err-pad.ensures.1)
