@@ -69,44 +69,44 @@ all_taken (file ∷ files) (m ∷ modules) read sound =
 module _ (code_words : ℕ) (done : List Module) (m : Module) (series : Series)
     (same : series.code_words ≡ code_words) (live : AreAllLive series) (order : AreInOrder code_words done series.placed)
   where
-  abbrev placed : List Placed
-  placed = series.placed
+    abbrev placed : List Placed
+    placed = series.placed
 
-  -- the module joins those before it
-  pub order_more : (new : Series) → HasJoined series new m
-      → AreInOrder code_words (done ++ m ∷ []) new.placed × (new.code_words ≡ code_words) × AreAllLive new
-  order_more new joined =
-      let p = joined.0 in
-      let joins : Joins code_words placed placed m p =
-      subst (λ (xs : List Placed). Joins code_words placed xs m p) (all_live_in series live)
-      (subst (λ (n : ℕ). Joins n placed (live_in series) m p) same joined.1) in (
-        subst (λ (xs : List Placed). AreInOrder code_words (done ++ m ∷ []) xs)
-            (sym (ap (λ (s : Series). s.placed) joined.2)) (in_order_more code_words done placed m p order joins),
-        ap (λ (s : Series). s.code_words) joined.2 ∙ same,
-        subst AreAllLive (sym joined.2) (all_live_more series p live),
-      )
+    -- the module joins those before it
+    pub order_more : (new : Series) → HasJoined series new m
+        → AreInOrder code_words (done ++ m ∷ []) new.placed × (new.code_words ≡ code_words) × AreAllLive new
+    order_more new joined =
+        let p = joined.0 in
+        let joins : Joins code_words placed placed m p =
+        subst (λ (xs : List Placed). Joins code_words placed xs m p) (all_live_in series live)
+        (subst (λ (n : ℕ). Joins n placed (live_in series) m p) same joined.1) in (
+          subst (λ (xs : List Placed). AreInOrder code_words (done ++ m ∷ []) xs)
+              (sym (ap (λ (s : Series). s.placed) joined.2)) (in_order_more code_words done placed m p order joins),
+          ap (λ (s : Series). s.code_words) joined.2 ∙ same,
+          subst AreAllLive (sym joined.2) (all_live_more series p live),
+        )
 
-  -- or is the first that does not
-  first_refused : (rest : List Module) (fault : JoinFault) → IsRefusedBy series m fault
-      → IsFirstRefused code_words (done ++ m ∷ rest) (length series.placed) fault
-  first_refused rest fault why = record {
-    refused = m;
-    is = at_seam done m rest (length series.placed) order.count;
-    before = series.placed;
-    order = subst (λ (ms : List Module). AreInOrder code_words ms series.placed)
-        (sym (before_seam done m rest (length series.placed) order.count)) order;
-    why = subst (λ (xs : List Placed). IsJoinFault code_words placed xs m fault) (all_live_in series live)
-        (subst (λ (n : ℕ). IsJoinFault n placed (live_in series) m fault) same why);
-  }
+    -- or is the first that does not
+    first_refused : (rest : List Module) (fault : JoinFault) → IsRefusedBy series m fault
+        → IsFirstRefused code_words (done ++ m ∷ rest) (length series.placed) fault
+    first_refused rest fault why = record {
+      refused = m;
+      is = at_seam done m rest (length series.placed) order.count;
+      before = series.placed;
+      order = subst (λ (ms : List Module). AreInOrder code_words ms series.placed)
+          (sym (before_seam done m rest (length series.placed) order.count)) order;
+      why = subst (λ (xs : List Placed). IsJoinFault code_words placed xs m fault) (all_live_in series live)
+          (subst (λ (n : ℕ). IsJoinFault n placed (live_in series) m fault) same why);
+    }
 
-  pub series_fault : (rest : List Module) (fault : JoinFault) → IsRefusedBy series m fault
-      → IsSeriesFault code_words (done ++ m ∷ rest) (fault_at (length series.placed) fault)
-  series_fault rest fault why = record {
-    number = length series.placed;
-    why = fault;
-    is = refl;
-    first = first_refused rest fault why;
-  }
+    pub series_fault : (rest : List Module) (fault : JoinFault) → IsRefusedBy series m fault
+        → IsSeriesFault code_words (done ++ m ∷ rest) (fault_at (length series.placed) fault)
+    series_fault rest fault why = record {
+      number = length series.placed;
+      why = fault;
+      is = refl;
+      first = first_refused rest fault why;
+    }
 
 module _ (code_words : ℕ) (files : List (List ℕ)) where
   -- a file that is no module is at fault

@@ -1,15 +1,21 @@
 //! Gates that hold guests and the script.
 
-use crate::marks::Mark;
+use crate::marks::{Mark, Waits};
 use cfi_io::Gate;
 use cfi_word::services::{EXIT, OPEN, QUIET};
+
+/// A gate that knows whether somebody has waited at it in vain.
+pub trait Watched: Gate {
+    /// Whether nobody has.
+    fn is_kept(&self) -> bool;
+}
 
 /// Holds each of two guests in its quiet service until the other has come to it.
 #[derive(Drop)]
 pub struct Meeting {
     first: Mark,
     second: Mark,
-    late: Mark,
+    waits: Waits,
 }
 
 impl Meeting {
@@ -18,21 +24,14 @@ impl Meeting {
         Meeting {
             first: Mark::new(),
             second: Mark::new(),
-            late: Mark::new(),
+            waits: Waits::new(),
         }
-    }
-
-    /// Whether no guest has waited in vain.
-    pub fn is_kept(&self) -> bool {
-        !self.late.is_put()
     }
 
     // Puts a mark and waits for the other.
     fn meet(&self, mine: &Mark, other: &Mark) {
         mine.put();
-        if !other.came() {
-            self.late.put();
-        }
+        self.waits.hold(other);
     }
 }
 
@@ -48,13 +47,19 @@ impl Gate for Meeting {
     fn line(&self, _call: u32) {}
 }
 
+impl Watched for Meeting {
+    fn is_kept(&self) -> bool {
+        self.waits.are_kept()
+    }
+}
+
 /// Holds the script's first call until guest 0 has come to its quiet service, and that guest's exit until the script
 /// has come to its second call.
 #[derive(Drop)]
 pub struct Weaving {
     quiet: Mark,
     second: Mark,
-    late: Mark,
+    waits: Waits,
 }
 
 impl Weaving {
@@ -63,19 +68,7 @@ impl Weaving {
         Weaving {
             quiet: Mark::new(),
             second: Mark::new(),
-            late: Mark::new(),
-        }
-    }
-
-    /// Whether nobody has waited in vain.
-    pub fn is_kept(&self) -> bool {
-        !self.late.is_put()
-    }
-
-    // Waits for a mark.
-    fn hold(&self, mark: &Mark) {
-        if !mark.came() {
-            self.late.put();
+            waits: Waits::new(),
         }
     }
 }
@@ -84,17 +77,23 @@ impl Gate for Weaving {
     fn pass(&self, guest: u32, service: u32) {
         match (guest, service) {
             (0, QUIET) => self.quiet.put(),
-            (0, EXIT) => self.hold(&self.second),
+            (0, EXIT) => self.waits.hold(&self.second),
             _ => {}
         }
     }
 
     fn line(&self, call: u32) {
         match call {
-            0 => self.hold(&self.quiet),
+            0 => self.waits.hold(&self.quiet),
             1 => self.second.put(),
             _ => {}
         }
+    }
+}
+
+impl Watched for Weaving {
+    fn is_kept(&self) -> bool {
+        self.waits.are_kept()
     }
 }
 
@@ -104,7 +103,7 @@ impl Gate for Weaving {
 pub struct Crossing {
     second: Mark,
     exit: Mark,
-    late: Mark,
+    waits: Waits,
 }
 
 impl Crossing {
@@ -113,19 +112,7 @@ impl Crossing {
         Crossing {
             second: Mark::new(),
             exit: Mark::new(),
-            late: Mark::new(),
-        }
-    }
-
-    /// Whether nobody has waited in vain.
-    pub fn is_kept(&self) -> bool {
-        !self.late.is_put()
-    }
-
-    // Waits for a mark.
-    fn hold(&self, mark: &Mark) {
-        if !mark.came() {
-            self.late.put();
+            waits: Waits::new(),
         }
     }
 }
@@ -133,7 +120,7 @@ impl Crossing {
 impl Gate for Crossing {
     fn pass(&self, guest: u32, service: u32) {
         match (guest, service) {
-            (0, OPEN) => self.hold(&self.second),
+            (0, OPEN) => self.waits.hold(&self.second),
             (0, EXIT) => self.exit.put(),
             _ => {}
         }
@@ -142,20 +129,26 @@ impl Gate for Crossing {
     fn line(&self, call: u32) {
         if call == 1 {
             self.second.put();
-            self.hold(&self.exit);
+            self.waits.hold(&self.exit);
         }
     }
 }
 
-/// Holds the script's first call until guest 0 has come to its quiet service, that guest there until the script has
-/// made its first so many calls, and the next call until the guest has come to its exit.
+impl Watched for Crossing {
+    fn is_kept(&self) -> bool {
+        self.waits.are_kept()
+    }
+}
+
+/// Holds the script's first call until guest 0 has come to its quiet service, each guest in that service until the
+/// script has made its first so many calls, and the next call until a guest has come to its exit.
 #[derive(Drop)]
 pub struct Parking {
     calls: u32,
     come: Mark,
     made: Mark,
     exit: Mark,
-    late: Mark,
+    waits: Waits,
 }
 
 impl Parking {
@@ -166,43 +159,39 @@ impl Parking {
             come: Mark::new(),
             made: Mark::new(),
             exit: Mark::new(),
-            late: Mark::new(),
-        }
-    }
-
-    /// Whether nobody has waited in vain.
-    pub fn is_kept(&self) -> bool {
-        !self.late.is_put()
-    }
-
-    // Waits for a mark.
-    fn hold(&self, mark: &Mark) {
-        if !mark.came() {
-            self.late.put();
+            waits: Waits::new(),
         }
     }
 }
 
 impl Gate for Parking {
     fn pass(&self, guest: u32, service: u32) {
-        match (guest, service) {
-            (0, QUIET) => {
-                self.come.put();
-                self.hold(&self.made);
+        match service {
+            QUIET => {
+                if guest == 0 {
+                    self.come.put();
+                }
+                self.waits.hold(&self.made);
             }
-            (0, EXIT) => self.exit.put(),
+            EXIT => self.exit.put(),
             _ => {}
         }
     }
 
     fn line(&self, call: u32) {
         if call == 0 {
-            self.hold(&self.come);
+            self.waits.hold(&self.come);
         }
         if call == self.calls {
             self.made.put();
-            self.hold(&self.exit);
+            self.waits.hold(&self.exit);
         }
+    }
+}
+
+impl Watched for Parking {
+    fn is_kept(&self) -> bool {
+        self.waits.are_kept()
     }
 }
 
@@ -213,7 +202,7 @@ pub struct Holding {
     come: Mark,
     held: Mark,
     ended: Mark,
-    late: Mark,
+    waits: Waits,
 }
 
 impl Holding {
@@ -223,16 +212,14 @@ impl Holding {
             come: Mark::new(),
             held: Mark::new(),
             ended: Mark::new(),
-            late: Mark::new(),
+            waits: Waits::new(),
         }
     }
 
     /// Tells that the guest has come, and waits for the lock to be held.
     pub fn come(&self) {
         self.come.put();
-        if !self.held.came() {
-            self.late.put();
-        }
+        self.waits.hold(&self.held);
     }
 
     /// Waits for the guest to come. Whether it came.
@@ -249,7 +236,7 @@ impl Holding {
     /// Tells that the guest has ended. Whether it has not waited in vain.
     pub fn end(&self) -> bool {
         self.ended.put();
-        !self.late.is_put()
+        self.waits.are_kept()
     }
 }
 

@@ -8,8 +8,9 @@
 //! of updates, and go; a guest fetches beside an update that adds code, and one without quiescent points hinders an
 //! update; guests run beside refreshes, one of them repeats a try, and each pause comes; two guests of a plan are in
 //! their services at once, its script goes on beside a guest, the script and a guest load one module in both orders;
-//! under three versions six refreshes are made while a guest is held in a service, and it checks on then; a guest runs
-//! to its end while the loader's lock is held, and so does one that has opened as often as it may and asks for each
+//! under three versions six refreshes are made while a guest is held in a service, and it checks on then; a guest that is
+//! in a module while it is retired halts at its next check and another one goes on, and one that has left it exits; a
+//! guest runs to its end while the loader's lock is held, and so does one that has opened as often as it may and asks for each
 //! service that needs no loader. Open: nothing.
 #![tactic(auto)]
 
@@ -23,6 +24,7 @@ mod runs;
 mod seats;
 mod tables;
 
+use crate::gates::{Crossing, Meeting, Parking, Weaving};
 use crate::plans::Texts;
 use std::{fs, io};
 
@@ -34,17 +36,72 @@ fn tell(rt: &HostRuntime, name: &str, is_right: bool) -> io::Result<()> {
     )
 }
 
+// The files of a plan and of its modules' sources.
+#[derive(Clone, Copy, Drop)]
+struct Files {
+    plan: &'static str,
+    sources: &'static [&'static str],
+}
+
 // The texts of a plan and of the sources of its modules.
-fn texts(rt: &HostRuntime, plan: &str, names: &[&str]) -> io::Result<Texts> {
+fn texts(rt: &HostRuntime, files: &Files) -> io::Result<Texts> {
     let mut sources = Vec::new(rt.alloc());
-    for name in names {
+    for name in files.sources {
         sources.push(fs::read(rt, *name)?)?;
     }
     Ok(Texts {
-        plan: fs::read(rt, plan)?,
+        plan: fs::read(rt, files.plan)?,
         sources,
     })
 }
+
+// Two guests that pass a quiescent point.
+const TWO: Files = Files {
+    plan: "two.plan",
+    sources: &["quiet.s"],
+};
+
+// A guest that passes a quiescent point, and two refreshes.
+const SCRIPT: Files = Files {
+    plan: "script.plan",
+    sources: &["quiet.s"],
+};
+
+// A guest opens the module that the script loads twice.
+const LOAD: Files = Files {
+    plan: "load.plan",
+    sources: &["open.s", "plug.s"],
+};
+
+// A guest asks for a service under three versions, and seven refreshes are made.
+const PARKED: Files = Files {
+    plan: "parked.plan",
+    sources: &["parked.s"],
+};
+
+// A guest is in a module while it is retired, and another one calls elsewhere.
+const INSIDE: Files = Files {
+    plan: "inside.plan",
+    sources: &["caller.s", "plugin.s"],
+};
+
+// A guest has returned from the module before it is retired.
+const LEFT: Files = Files {
+    plan: "left.plan",
+    sources: &["caller.s", "plugin.s"],
+};
+
+// A guest calls and returns, and passes a quiescent point.
+const CALL: Files = Files {
+    plan: "call.plan",
+    sources: &["call.s"],
+};
+
+// A guest opens as often as it may, and asks for each other service.
+const SERVED: Files = Files {
+    plan: "served.plan",
+    sources: &["served.s"],
+};
 
 fn main(rt: HostRuntime) -> io::Result<()> {
     tell(
@@ -84,50 +141,86 @@ fn main(rt: HostRuntime) -> io::Result<()> {
     )?;
     tell(&rt, "each pause", runs::each_pause(rt.alloc())?)?;
     tell(&rt, "each fuel", runs::each_fuel(rt.alloc())?)?;
-    let two = texts(&rt, "two.plan", &["quiet.s"])?;
-    let two_report = fs::read(&rt, "two.report")?;
+    let report = fs::read(&rt, "two.report")?;
     tell(
         &rt,
         "two guests at once",
-        plans::two_guests_at_once(&rt, rt.alloc(), &two, &two_report),
+        plans::is_run_to(&rt, rt.alloc(), texts(&rt, &TWO)?, &Meeting::new(), report),
     )?;
-    let script = texts(&rt, "script.plan", &["quiet.s"])?;
-    let script_report = fs::read(&rt, "script.report")?;
+    let report = fs::read(&rt, "script.report")?;
     tell(
         &rt,
         "a script beside a guest",
-        plans::a_script_beside_a_guest(&rt, rt.alloc(), &script, &script_report),
+        plans::is_run_to(
+            &rt,
+            rt.alloc(),
+            texts(&rt, &SCRIPT)?,
+            &Weaving::new(),
+            report,
+        ),
     )?;
-    let load = texts(&rt, "load.plan", &["open.s", "plug.s"])?;
-    let guest_report = fs::read(&rt, "load.report")?;
+    let report = fs::read(&rt, "load.report")?;
     tell(
         &rt,
         "a guest's load before the script's",
-        plans::a_script_beside_a_guest(&rt, rt.alloc(), &load, &guest_report),
+        plans::is_run_to(&rt, rt.alloc(), texts(&rt, &LOAD)?, &Weaving::new(), report),
     )?;
-    let load_report = fs::read(&rt, "loaded.report")?;
+    let report = fs::read(&rt, "loaded.report")?;
     tell(
         &rt,
         "the script's load before a guest's",
-        plans::a_load_before_a_guests(&rt, rt.alloc(), &load, &load_report),
+        plans::is_run_to(
+            &rt,
+            rt.alloc(),
+            texts(&rt, &LOAD)?,
+            &Crossing::new(),
+            report,
+        ),
     )?;
-    let parked = texts(&rt, "parked.plan", &["parked.s"])?;
-    let parked_report = fs::read(&rt, "parked.report")?;
+    let report = fs::read(&rt, "parked.report")?;
     tell(
         &rt,
         "a guest parked beside refreshes",
-        plans::a_guest_parked_beside_refreshes(&rt, rt.alloc(), &parked, &parked_report),
+        plans::is_run_to(
+            &rt,
+            rt.alloc(),
+            texts(&rt, &PARKED)?,
+            &Parking::new(6),
+            report,
+        ),
     )?;
-    let call = texts(&rt, "call.plan", &["call.s"])?;
+    let report = fs::read(&rt, "inside.report")?;
+    tell(
+        &rt,
+        "a guest in a module that is retired",
+        plans::is_run_to(
+            &rt,
+            rt.alloc(),
+            texts(&rt, &INSIDE)?,
+            &Parking::new(1),
+            report,
+        ),
+    )?;
+    let report = fs::read(&rt, "left.report")?;
+    tell(
+        &rt,
+        "a guest that has left the module",
+        plans::is_run_to(
+            &rt,
+            rt.alloc(),
+            texts(&rt, &LEFT)?,
+            &Crossing::new(),
+            report,
+        ),
+    )?;
     tell(
         &rt,
         "a guest beside a held lock",
-        plans::a_guest_beside_a_held_lock(&rt, rt.alloc(), &call),
+        plans::a_guest_beside_a_held_lock(&rt, rt.alloc(), texts(&rt, &CALL)?),
     )?;
-    let served = texts(&rt, "served.plan", &["served.s"])?;
     tell(
         &rt,
         "services beside a held lock",
-        plans::services_beside_a_held_lock(&rt, rt.alloc(), &served),
+        plans::services_beside_a_held_lock(&rt, rt.alloc(), texts(&rt, &SERVED)?),
     )
 }

@@ -39,3 +39,28 @@ impl Mark {
         false
     }
 }
+
+/// What nobody may do in vain: to wait for a mark.
+#[derive(Drop)]
+pub struct Waits {
+    late: Mark,
+}
+
+impl Waits {
+    /// Nobody has waited.
+    pub fn new() -> Waits {
+        Waits { late: Mark::new() }
+    }
+
+    /// Waits for a mark.
+    pub fn hold(&self, mark: &Mark) {
+        if !mark.came() {
+            self.late.put();
+        }
+    }
+
+    /// Whether nobody has waited in vain.
+    pub fn are_kept(&self) -> bool {
+        !self.late.is_put()
+    }
+}

@@ -2,19 +2,14 @@
 
 ghost use Rattle.std.specs.Prelude.{◌≡◌, None};
 ghost use Rattle.cfi_engine.specs.Guests.{HasCode};
-ghost use Rattle.cfi_ledger.specs.Plans.{CanStart};
 ghost use Rattle.cfi_loader.specs.Start.{IsStarted};
 
 use crate::files::planned;
-use crate::gates::{Crossing, Holding, Meeting, Parking, Weaving};
-use cfi_aux::Module;
+use crate::gates::{Holding, Watched};
 use cfi_engine::{Runner, drive, open_guests, run_plan};
-use cfi_io::Gate;
 use cfi_loader::{Loader, LoaderName, Start};
-use cfi_plan::Plan;
 use cfi_report::write_report;
 use cfi_tables::{TableName, Tables};
-use cfi_values::Items;
 use cfi_word::limits::MAX_OPENS;
 use cfi_word::services::{REFUSED, TOO_MANY};
 use rv_guest::{Guest, Log, Stop};
@@ -32,83 +27,24 @@ pub struct Texts {
     pub sources: Vec<Vec<u8>>,
 }
 
-// Whether a run of the plan under the gate has this report.
-fn has_report<G: Gate, R: Threads + Wait + Sync>(
+/// A run of the plan under the gate has this report, and nobody has waited at the gate in vain.
+pub fn is_run_to<G: Watched, R: Threads + Wait + Sync>(
     rt: &R,
     alloc: Global,
-    plan: &Plan,
-    modules: Items<Module>,
+    texts: Texts,
     gate: &G,
-    report: &[u8],
-) -> bool
-    requires can { CanStart plan.now modules }
-    requires code { HasCode plan.now modules }
-{
-    let Ok(run) = run_plan(rt, alloc, plan, modules, gate) else {
+    report: Vec<u8>,
+) -> bool {
+    let Some((plan, modules)) = planned(alloc, &texts.plan, texts.sources.as_slice()) else {
+        return false;
+    };
+    let Ok(run) = run_plan(rt, alloc, &plan, modules, gate) else {
         return false;
     };
     match write_report(alloc, run.report()) {
-        Ok(text) => text.as_slice() == report,
+        Ok(text) => text.as_slice() == report.as_slice() && gate.is_kept(),
         Err(_) => false,
     }
-}
-
-/// Two guests of a plan are in their services at once, and the run has this report.
-pub fn two_guests_at_once<R: Threads + Wait + Sync>(
-    rt: &R,
-    alloc: Global,
-    texts: &Texts,
-    report: &[u8],
-) -> bool {
-    let Some((plan, modules)) = planned(alloc, &texts.plan, texts.sources.as_slice()) else {
-        return false;
-    };
-    let gate = Meeting::new();
-    has_report(rt, alloc, &plan, modules, &gate, report) && gate.is_kept()
-}
-
-/// The script's first call comes after a guest's first service, and its second before the guest's last;
-/// the run has this report.
-pub fn a_script_beside_a_guest<R: Threads + Wait + Sync>(
-    rt: &R,
-    alloc: Global,
-    texts: &Texts,
-    report: &[u8],
-) -> bool {
-    let Some((plan, modules)) = planned(alloc, &texts.plan, texts.sources.as_slice()) else {
-        return false;
-    };
-    let gate = Weaving::new();
-    has_report(rt, alloc, &plan, modules, &gate, report) && gate.is_kept()
-}
-
-/// The script loads a module before a guest asks for it, and again when the guest has gone on; the run has this report.
-pub fn a_load_before_a_guests<R: Threads + Wait + Sync>(
-    rt: &R,
-    alloc: Global,
-    texts: &Texts,
-    report: &[u8],
-) -> bool {
-    let Some((plan, modules)) = planned(alloc, &texts.plan, texts.sources.as_slice()) else {
-        return false;
-    };
-    let gate = Crossing::new();
-    has_report(rt, alloc, &plan, modules, &gate, report) && gate.is_kept()
-}
-
-/// A guest is held in its first service beside twice as many refreshes as there are versions, 3, and checks a call and
-/// a return then; the run has this report.
-pub fn a_guest_parked_beside_refreshes<R: Threads + Wait + Sync>(
-    rt: &R,
-    alloc: Global,
-    texts: &Texts,
-    report: &[u8],
-) -> bool {
-    let Some((plan, modules)) = planned(alloc, &texts.plan, texts.sources.as_slice()) else {
-        return false;
-    };
-    let gate = Parking::new(6);
-    has_report(rt, alloc, &plan, modules, &gate, report) && gate.is_kept()
 }
 
 // Whether the guest has called and returned, passed a quiescent point and exited, under policy 0 and without a repeated
@@ -218,7 +154,7 @@ fn driven<N: LoaderName + Send + Sync, R: Threads + Wait + Sync>(
 fn does_beside_a_held_lock<R: Threads + Wait + Sync>(
     rt: &R,
     alloc: Global,
-    texts: &Texts,
+    texts: Texts,
     task: Task,
 ) -> bool {
     let Some((plan, modules)) = planned(alloc, &texts.plan, texts.sources.as_slice()) else {
@@ -234,7 +170,7 @@ fn does_beside_a_held_lock<R: Threads + Wait + Sync>(
 pub fn a_guest_beside_a_held_lock<R: Threads + Wait + Sync>(
     rt: &R,
     alloc: Global,
-    texts: &Texts,
+    texts: Texts,
 ) -> bool {
     does_beside_a_held_lock(rt, alloc, texts, Task::Call)
 }
@@ -244,7 +180,7 @@ pub fn a_guest_beside_a_held_lock<R: Threads + Wait + Sync>(
 pub fn services_beside_a_held_lock<R: Threads + Wait + Sync>(
     rt: &R,
     alloc: Global,
-    texts: &Texts,
+    texts: Texts,
 ) -> bool {
     does_beside_a_held_lock(rt, alloc, texts, Task::Services)
 }

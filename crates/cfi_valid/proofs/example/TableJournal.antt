@@ -47,9 +47,10 @@ opening = record {
   policy = refl;
   starts = refl;
   policies = came_first (first ∷ second ∷ []) refl;
-  order = in_order MAX_CODE_WORDS (lib_module ∷ main_module ∷ []) before refl
-      (record { behind = lib_is; verified = lib_verified },
-      (record { behind = main_is; verified = main_verified }, tt));
+  order = in_order MAX_CODE_WORDS (lib_module ∷ main_module ∷ []) before refl (
+    record { behind = lib_is; verified = lib_verified },
+    (record { behind = main_is; verified = main_verified }, tt),
+  );
   stay = refl;
 }
 

@@ -36,10 +36,13 @@ not_named letter name is other = other (ap (λ (xs : List ℕ). slice_index xs 0
 
 none_in_lib : HasNoneOf (IsGlobalOf (codes "_start")) lib_placed
 none_in_lib =
-    each_of (λ (f : PlacedFunction). ¬ IsGlobalOf (codes "_start") f) lib_placed.functions
-    (λ is. absurd (cc),
-    (λ is. absurd (cc),
-    (λ is. not_named 115 _ is.1 (omega arith), (λ is. not_named 99 _ is.1 (omega arith), tt))))
+    each_of (λ (f : PlacedFunction). ¬ IsGlobalOf (codes "_start") f) lib_placed.functions (
+      λ is. absurd (cc),
+      (
+        λ is. absurd (cc),
+        (λ is. not_named 115 _ is.1 (omega arith), (λ is. not_named 99 _ is.1 (omega arith), tt)),
+      ),
+    )
 
 none_before : (k : ℕ) (m : Placed) → k < 1 → slice_get before k ≡ Some m → HasNoneOf (IsGlobalOf (codes "_start")) m
 none_before zero m below is =
