@@ -1,7 +1,8 @@
 //! Images of modules and the policies of their direct edges, of modules that are written by hand.
 
-ghost use Rattle.std.specs.Prelude.{◌≡◌, [], ◌∷◌, IfOk};
+ghost use Rattle.std.specs.Prelude.{◌≡◌, [], ◌∷◌, IfOk, length};
 ghost use Rattle.cfi_graph.specs.Reading.{HaveGraph};
+ghost use Rattle.cfi_policy.specs.Book.{StandsFor};
 ghost use Rattle.cfi_policy.specs.Image.{HaveImage};
 
 use crate::made::calls;
@@ -147,18 +148,37 @@ fn has_classes(image: &Image, slots: &[u32], words: &[(usize, u32)]) -> bool {
         && words.iter().all(|(word, class)| image.tary.as_slice().get(*word) == Some(class))
 }
 
-/// A module comes to a book of none: its two classes are numbered from 1, and its words stand in their places.
-pub fn book(alloc: Global) -> Result<bool, AllocError> {
+// The book of no modules.
+fn empty_book(alloc: Global) -> Result<Book, AllocError>
+    ensures stands { IfOk result (StandsFor []) }
+    ensures words { IfOk result (λ book. length book.image.tary ≡ 1024) }
+{
     low_modules_have_image();
     let layout = Layout::new(1024).unwrap();
     let code = vec![in alloc; 0; 1024]?;
-    let empty = Book::of(alloc, &[], code.as_slice(), &layout)?;
-    let placed = calls(alloc, 1)?;
-    let longer = empty.extended(alloc, &[], &placed)?;
+    Book::of(alloc, &[], code.as_slice(), &layout)
+}
+
+// The book of a module that comes to a book of none.
+fn book_with(alloc: Global, empty: Book, placed: &Placed) -> Result<Book, AllocError>
+    requires stands { StandsFor [] empty }
+    requires image { HaveImage (placed.now ∷ []) (length empty.image.tary) }
+{
+    empty.extended(alloc, &[], placed)
+}
+
+// Whether the image of the book has the two classes of the module of calls, and its words in their places.
+fn has_calls(book: Book, placed: &Placed) -> bool {
     let words = [(33, 1), (47, 1), (17, 2), (18, 2), (32, 2), (16, 0)];
-    let image = longer.image();
-    Ok(
-        has_classes(image, &[1, 2, 2, 16383], &words)
-            && image.code.as_slice()[16..].starts_with(placed.words.as_slice()),
-    )
+    let image = book.image();
+    has_classes(image, &[1, 2, 2, 16383], &words)
+        && image.code.as_slice()[16..].starts_with(placed.words.as_slice())
+}
+
+/// A module comes to a book of none: its two classes are numbered from 1, and its words stand in their places.
+pub fn book(alloc: Global) -> Result<bool, AllocError> {
+    let placed = calls(alloc, 1)?;
+    let empty = empty_book(alloc)?;
+    let book = book_with(alloc, empty, &placed)?;
+    Ok(has_calls(book, &placed))
 }
