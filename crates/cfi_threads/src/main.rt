@@ -38,13 +38,13 @@ fn tell(rt: &HostRuntime, name: &str, is_right: bool) -> io::Result<()> {
 
 // The files of a plan and of its modules' sources.
 #[derive(Clone, Copy, Drop)]
-struct Files {
+struct PlanFiles {
     plan: &'static str,
     sources: &'static [&'static str],
 }
 
 // The texts of a plan and of the sources of its modules.
-fn texts(rt: &HostRuntime, files: &Files) -> io::Result<Texts> {
+fn texts(rt: &HostRuntime, files: &PlanFiles) -> io::Result<Texts> {
     let mut sources = Vec::new(rt.alloc());
     for name in files.sources {
         sources.push(fs::read(rt, *name)?)?;
@@ -56,49 +56,49 @@ fn texts(rt: &HostRuntime, files: &Files) -> io::Result<Texts> {
 }
 
 // Two guests that pass a quiescent point.
-const TWO: Files = Files {
+const TWO: PlanFiles = PlanFiles {
     plan: "two.plan",
     sources: &["quiet.s"],
 };
 
 // A guest that passes a quiescent point, and two refreshes.
-const SCRIPT: Files = Files {
+const SCRIPT: PlanFiles = PlanFiles {
     plan: "script.plan",
     sources: &["quiet.s"],
 };
 
 // A guest opens the module that the script loads twice.
-const LOAD: Files = Files {
+const LOAD: PlanFiles = PlanFiles {
     plan: "load.plan",
     sources: &["open.s", "plug.s"],
 };
 
 // A guest asks for a service under three versions, and seven refreshes are made.
-const PARKED: Files = Files {
+const PARKED: PlanFiles = PlanFiles {
     plan: "parked.plan",
     sources: &["parked.s"],
 };
 
 // A guest is in a module while it is retired, and another one calls elsewhere.
-const INSIDE: Files = Files {
+const INSIDE: PlanFiles = PlanFiles {
     plan: "inside.plan",
     sources: &["caller.s", "plugin.s"],
 };
 
 // A guest has returned from the module before it is retired.
-const LEFT: Files = Files {
+const LEFT: PlanFiles = PlanFiles {
     plan: "left.plan",
     sources: &["caller.s", "plugin.s"],
 };
 
 // A guest calls and returns, and passes a quiescent point.
-const CALL: Files = Files {
+const CALL: PlanFiles = PlanFiles {
     plan: "call.plan",
     sources: &["call.s"],
 };
 
 // A guest opens as often as it may, and asks for each other service.
-const SERVED: Files = Files {
+const SERVED: PlanFiles = PlanFiles {
     plan: "served.plan",
     sources: &["served.s"],
 };
