@@ -45,7 +45,7 @@ tagged_alike arrows seeds tags others same tagged = record {
       let on = tagged.closed from to h (has.0, sym (same from) ∙ has.1) in (on.0, same to ∙ on.1);
 }
 
-below_longer : (least count : ℕ) (before more all : List Link) → all ≡ before ++ more → least ≤ count
+pub below_longer : (least count : ℕ) (before more all : List Link) → all ≡ before ++ more → least ≤ count
     → AreBelow least before → AreBelow count more → AreBelow count all
 below_longer least count before more all is le old new = λ k d lt.
     let link = get_or all k d in

@@ -1,6 +1,6 @@
 //! A flow that is kept while links are added, and few edges of it.
 
-ghost use Rattle.std.specs.Prelude.{◌≡◌, ◌≤◌, ◌++◌, map, IfOk};
+ghost use Rattle.std.specs.Prelude.{◌≡◌, ◌≤◌, ◌++◌, map, IfOk, OnOk};
 ghost use Rattle.cfi_flow.specs.Fans.{link_edge};
 ghost use Rattle.cfi_flow.specs.Flow.{IsSound};
 ghost use Rattle.cfi_flow.specs.Kept.{no_flow, IsExtended, SpansFlow};
@@ -38,23 +38,13 @@ impl Model for KeptFlow {
         IsKeptFlow k.nodes k.pointing k.returning k.listed.items k.edges.items };
 }
 
-// A copy of the links with further ones at the end.
-fn longer(alloc: Global, links: &[Link], more: &[Link]) -> Result<Vec<Link>, AllocError>
-    ensures { IfOk result (λ all. all.items ≡ links.now ++ more.now) }
-{
-    let mut all = Vec::from_slice(alloc, links)?;
-    all.extend_from_slice(more)?;
-    Ok(all)
-}
-
-// A copy of the edges with those of links at the end.
-fn with_listed(alloc: Global, edges: &[Edge], links: &[Link]) -> Result<Vec<Edge>, AllocError>
-    ensures { IfOk result (λ all. all.items ≡ edges.now ++ map link_edge links.now) }
+// Adds the edges of links.
+fn add_listed(alloc: Global, edges: &mut Vec<Edge>, links: &[Link]) -> Result<(), AllocError>
+    ensures { OnOk result (edges.new.items ≡ edges.old.items ++ map link_edge links.now) }
 {
     let listed = edges_of(alloc, links)?;
-    let mut all = Vec::from_slice(alloc, edges)?;
-    all.extend_from_slice(listed.as_slice())?;
-    Ok(all)
+    edges.extend_from_slice(listed.as_slice())?;
+    Ok(())
 }
 
 impl KeptFlow {
@@ -71,30 +61,46 @@ impl KeptFlow {
         }
     }
 
-    /// The flow with further links: those of `more`, which has all nodes. The one before stays as it is.
+    /// A copy.
+    pub fn copied(&self, alloc: Global) -> Result<KeptFlow, AllocError>
+        ensures { IfOk result (λ flow. flow ≡ self.now) }
+    {
+        Ok(KeptFlow {
+            nodes: self.nodes,
+            pointing: self.pointing.copied(alloc)?,
+            returning: self.returning.copied(alloc)?,
+            listed: Vec::from_slice(alloc, &self.listed)?,
+            edges: Vec::from_slice(alloc, &self.edges)?,
+        })
+    }
+
+    /// The flow with further links: those of `more`, which has all nodes.
     ///
     /// The work is proportional to what is further and to the links of nodes to which something comes for the first
-    /// time, but for copies of arrays and for room for the nodes.
-    pub fn extended(&self, alloc: Global, more: &Flow) -> Result<KeptFlow, AllocError>
+    /// time, but for room for the nodes.
+    pub fn grown(self, alloc: Global, more: &Flow) -> Result<KeptFlow, AllocError>
         requires sound { IsSound more.now }
-        requires nodes { self.now.nodes ≤ more.now.nodes }
-        ensures { IfOk result (IsExtended self.now more.now) }
+        requires nodes { self.nodes ≤ more.now.nodes }
+        ensures { IfOk result (IsExtended self more.now) }
     {
         let nodes = more.nodes;
-        let mut edges = with_listed(alloc, &self.edges, &more.listed)?;
+        let mut edges = self.edges;
+        add_listed(alloc, &mut edges, &more.listed)?;
         let (widenings, entries, pointers) = (&more.widenings, &more.entries, &more.pointers);
         let pointing = self
             .pointing
-            .extended(alloc, &mut edges, nodes, widenings, entries, pointers)?;
+            .grown(alloc, &mut edges, nodes, widenings, entries, pointers)?;
         let (arrows, sites, returns) = (&more.arrows, &more.sites, &more.returns);
         let returning = self
             .returning
-            .extended(alloc, &mut edges, nodes, arrows, sites, returns)?;
+            .grown(alloc, &mut edges, nodes, arrows, sites, returns)?;
+        let mut listed = self.listed;
+        listed.extend_from_slice(&more.listed)?;
         Ok(KeptFlow {
             nodes,
             pointing,
             returning,
-            listed: longer(alloc, &self.listed, &more.listed)?,
+            listed,
             edges,
         })
     }

@@ -7,7 +7,7 @@ ghost use Rattle.cfi_flow.specs.inner.KeptWays.{AddsTouched, AddsLongerWays};
 
 use crate::links::Link;
 use crate::star::Star;
-use crate::tagged::{for_nodes, spread_on};
+use crate::tagged::{make_nodes, spread_on};
 use crate::ways::{add_tied, flipped};
 use cfi_word::Edge;
 use std::alloc::{AllocError, Global};
@@ -74,26 +74,38 @@ impl Side {
         }
     }
 
+    // A copy.
+    fn copied(&self, alloc: Global) -> Result<Side, AllocError>
+        ensures { IfOk result (λ side. side ≡ self.now) }
+    {
+        Ok(Side {
+            arrows: self.arrows.copied(alloc)?,
+            seeds: self.seeds.copied(alloc)?,
+            tags: Vec::from_slice(alloc, &self.tags)?,
+        })
+    }
+
     // The side with further arrows and seeds, over so many nodes, and the nodes whose tags are new.
-    fn extended(
-        &self,
+    fn grown(
+        self,
         alloc: Global,
         nodes: u32,
         arrows: &[Link],
         seeds: &[Link],
     ) -> Result<(Side, Vec<Link>), AllocError>
-        requires nodes { length self.now.tags ≤ nodes }
+        requires nodes { length self.tags ≤ nodes }
         requires arrows { AreBelow nodes arrows.now }
         requires seeds { BeginBelow nodes seeds.now }
         ensures { IfOk result (λ both.
-            IsLongerSide self.now nodes arrows.now seeds.now both.0 both.1.items) }
+            IsLongerSide self nodes arrows.now seeds.now both.0 both.1.items) }
     {
-        let all = self.arrows.extended(alloc, arrows)?;
-        let mut tags = for_nodes(alloc, self.tags.as_slice(), nodes)?;
+        let all = self.arrows.grown(arrows)?;
+        let mut tags = self.tags;
+        make_nodes(&mut tags, nodes)?;
         let changes = spread_on(alloc, &all, &mut tags, arrows, seeds)?;
         let side = Side {
             arrows: all,
-            seeds: self.seeds.extended(alloc, seeds)?,
+            seeds: self.seeds.grown(seeds)?,
             tags,
         };
         Ok((side, changes))
@@ -162,9 +174,19 @@ impl KeptWays {
         }
     }
 
+    // A copy.
+    pub(crate) fn copied(&self, alloc: Global) -> Result<KeptWays, AllocError>
+        ensures { IfOk result (λ ways. ways ≡ self.now) }
+    {
+        Ok(KeptWays {
+            forth: self.forth.copied(alloc)?,
+            back: self.back.copied(alloc)?,
+        })
+    }
+
     // The ways with further links, over so many nodes; adds the edges that tie these beside those before.
-    pub(crate) fn extended(
-        &self,
+    pub(crate) fn grown(
+        self,
         alloc: Global,
         edges: &mut Vec<Edge>,
         nodes: u32,
@@ -172,20 +194,18 @@ impl KeptWays {
         sites: &[Link],
         returns: &[Link],
     ) -> Result<KeptWays, AllocError>
-        requires nodes { length self.now.forth.tags ≤ nodes }
+        requires nodes { length self.forth.tags ≤ nodes }
         requires arrows { AreBelow nodes arrows.now }
         requires sites { BeginBelow nodes sites.now }
         requires returns { BeginBelow nodes returns.now }
         ensures kept { IfOk result AreKeptWays }
         ensures nodes { IfOk result (λ ways. length ways.forth.tags ≡ nodes) }
-        ensures ways { IfOk result (λ ways. AddsLongerWays self.now arrows.now sites.now returns.now
+        ensures ways { IfOk result (λ ways. AddsLongerWays self arrows.now sites.now returns.now
             ways edges.old.items edges.new.items) }
     {
         let turned = flipped(alloc, arrows)?;
-        let (forth, mut changes) = self.forth.extended(alloc, nodes, arrows, sites)?;
-        let (back, others) = self
-            .back
-            .extended(alloc, nodes, turned.as_slice(), returns)?;
+        let (forth, mut changes) = self.forth.grown(alloc, nodes, arrows, sites)?;
+        let (back, others) = self.back.grown(alloc, nodes, turned.as_slice(), returns)?;
         changes.extend_from_slice(others.as_slice())?;
         add_touched(
             alloc,

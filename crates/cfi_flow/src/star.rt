@@ -82,13 +82,26 @@ impl Star {
         }
     }
 
-    // A copy with further links at the end.
-    pub(crate) fn extended(&self, alloc: Global, more: &[Link]) -> Result<Star, AllocError>
-        ensures { IfOk result (λ star. star ≡ self.now ++ more.now) }
+    // A copy.
+    pub(crate) fn copied(&self, alloc: Global) -> Result<Star, AllocError>
+        ensures { IfOk result (λ star. star ≡ self.now) }
     {
-        let mut links = Vec::from_slice(alloc, &self.links)?;
-        let mut lasts = Vec::from_slice(alloc, &self.lasts)?;
-        let mut befores = Vec::from_slice(alloc, &self.befores)?;
+        Ok(Star {
+            links: Vec::from_slice(alloc, &self.links)?,
+            lasts: Vec::from_slice(alloc, &self.lasts)?,
+            befores: Vec::from_slice(alloc, &self.befores)?,
+        })
+    }
+
+    // The star with further links at the end.
+    pub(crate) fn grown(self, more: &[Link]) -> Result<Star, AllocError>
+        ensures { IfOk result (λ star. star ≡ self ++ more.now) }
+    {
+        let Star {
+            mut links,
+            mut lasts,
+            mut befores,
+        } = self;
         for link in more {
             add(&mut links, &mut lasts, &mut befores, *link)?;
         }

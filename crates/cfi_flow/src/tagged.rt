@@ -12,19 +12,15 @@ use crate::spread::{begin, visit};
 use crate::star::Star;
 use std::alloc::{AllocError, Global};
 
-// A copy of the tags for more nodes, which have none.
-pub(crate) fn for_nodes(
-    alloc: Global,
-    tags: &[Option<u32>],
-    nodes: u32,
-) -> Result<Vec<Option<u32>>, AllocError>
-    requires { length tags.now ≤ nodes }
-    ensures len { IfOk result (λ new. length new.items ≡ nodes) }
-    ensures same { IfOk result (λ new. (node : ℕ) → tag_of new.items node ≡ tag_of tags.now node) }
+// Makes places for more nodes, which have no tags.
+pub(crate) fn make_nodes(tags: &mut Vec<Option<u32>>, nodes: u32) -> Result<(), AllocError>
+    requires { vec_len tags.old ≤ nodes }
+    ensures len { OnOk result (length tags.new.items ≡ nodes) }
+    ensures same { OnOk result ((node : ℕ) →
+        tag_of tags.new.items node ≡ tag_of tags.old.items node) }
 {
-    let mut new = Vec::from_slice(alloc, tags)?;
-    new.resize(nodes as usize, None)?;
-    Ok(new)
+    tags.resize(nodes as usize, None)?;
+    Ok(())
 }
 
 // Where the links lead.

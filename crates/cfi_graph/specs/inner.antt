@@ -7,3 +7,4 @@ pub mod Names
 pub mod NewEdges
 pub mod More
 pub mod KeptGraph
+pub mod Addition

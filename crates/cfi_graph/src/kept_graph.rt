@@ -1,13 +1,16 @@
 //! The links of placed modules, kept while modules are added.
 
-ghost use Rattle.std.specs.Prelude.{◌≡◌, ℕ, ◌<◌, ◌^◌, ◌++◌, ◌∷◌, [], List, length, IfOk};
+ghost use Rattle.std.specs.Prelude.{◌≡◌, ◌≤◌, ℕ, ◌<◌, ◌^◌, ◌++◌, ◌∷◌, [], List, length, IfOk};
 ghost use Rattle.cfi_aux.specs.declared.placed.Placed.{Placed as PlacedModule};
+ghost use Rattle.cfi_flow.specs.Flow.{IsSound};
 ghost use Rattle.cfi_flow.specs.Fresh.{AreOthers};
 ghost use Rattle.cfi_types.specs.Classes.{AreClasses};
 ghost use Rattle.cfi_graph.specs.KeptGraph.{IsGraphOf, IsLonger, SpanEdges};
 ghost use Rattle.cfi_graph.specs.Reading.{tables_of, HaveGraph};
+ghost use Rattle.cfi_graph.specs.inner.Addition.{IsAddition, HasAddition};
 ghost use Rattle.cfi_graph.specs.inner.KeptGraph.{AreMoreWider};
 
+use crate::addition::Addition;
 use crate::direct::{book_of, type_links};
 use crate::fact::flow_by;
 use crate::more::more_facts;
@@ -56,15 +59,6 @@ fn more_wider(
     other_links(alloc, all.as_slice(), known)
 }
 
-// The links with further ones behind them.
-fn longer(alloc: Global, links: &[Link], more: &[Link]) -> Result<Vec<Link>, AllocError>
-    ensures { IfOk result (λ all. all.items ≡ links.now ++ more.now) }
-{
-    let mut all = Vec::from_slice(alloc, links)?;
-    all.extend_from_slice(more)?;
-    Ok(all)
-}
-
 impl KeptGraph {
     /// No modules.
     pub fn new(alloc: Global) -> Result<KeptGraph, AllocError>
@@ -86,17 +80,65 @@ impl KeptGraph {
     {
         let mut graph = KeptGraph::new(alloc)?;
         for (number, placed) in modules.iter().enumerate() {
-            graph = graph.extended(alloc, &modules[..number], placed)?;
+            graph = graph.grown(alloc, &modules[..number], placed)?;
         }
         Ok(graph)
     }
 
+    // A copy.
+    fn copied(&self, alloc: Global) -> Result<KeptGraph, AllocError>
+        ensures { IfOk result (λ graph. graph ≡ self.now) }
+    {
+        Ok(KeptGraph {
+            classes: self.classes.copied(alloc)?,
+            wider: Vec::from_slice(alloc, &self.wider)?,
+            flow: self.flow.copied(alloc)?,
+        })
+    }
+
+    // What one more module adds.
+    fn addition(&self, alloc: Global, old: &[Placed], new: &Placed) -> Result<Addition, AllocError>
+        requires graph { HaveGraph (old.now ++ new.now ∷ []) }
+        requires is { IsGraphOf old.now self.now }
+        ensures { IfOk result (IsAddition old.now new.now self.now) }
+    {
+        let book = book_of(alloc, old)?;
+        let classes = book.classes_with(&new.types, &self.classes)?;
+        let wider = more_wider(alloc, old, new, &classes, &self.wider)?;
+        let facts = more_facts(alloc, old, new, &classes)?;
+        let links = type_links(alloc, wider.as_slice())?;
+        let nodes = node_count_with(old, new);
+        let flow = flow_by(alloc, facts.as_slice(), links, nodes)?;
+        Ok(Addition {
+            classes,
+            wider,
+            flow,
+        })
+    }
+
+    // With what a module adds.
+    fn with(self, alloc: Global, more: Addition) -> Result<KeptGraph, AllocError>
+        requires sound { IsSound more.flow }
+        requires nodes { self.flow.nodes ≤ more.flow.nodes }
+        ensures { IfOk result (HasAddition self more) }
+    {
+        let KeptGraph {
+            mut wider,
+            flow,
+            ..
+        } = self;
+        wider.extend_from_slice(&more.wider)?;
+        let flow = flow.grown(alloc, &more.flow)?;
+        Ok(KeptGraph {
+            classes: more.classes,
+            wider,
+            flow,
+        })
+    }
+
     /// The links of the modules and of one more, where these are those of the modules alone. They stay as they are.
     ///
-    /// Together the modules are as `edges` takes them. Of the old ones numbers of types and kinds of types and branches
-    /// are looked at, and types where they are new with a module. Names of functions are looked at only where the new
-    /// module imports some, or has some that old ones import, and code only where it imports a name that only the new
-    /// module's functions have.
+    /// Together the modules are as `edges` takes them. The work is that of `grown`, and a copy.
     pub fn extended(
         &self,
         alloc: Global,
@@ -108,18 +150,23 @@ impl KeptGraph {
         ensures is { IfOk result (IsGraphOf (old.now ++ new.now ∷ [])) }
         ensures edges { IfOk result (λ graph. IsLonger self.now.flow.edges graph.flow.edges) }
     {
-        let book = book_of(alloc, old)?;
-        let classes = book.classes_with(&new.types, &self.classes)?;
-        let wider = more_wider(alloc, old, new, &classes, &self.wider)?;
-        let facts = more_facts(alloc, old, new, &classes)?;
-        let links = type_links(alloc, wider.as_slice())?;
-        let nodes = node_count_with(old, new);
-        let more = flow_by(alloc, facts.as_slice(), links, nodes)?;
-        Ok(KeptGraph {
-            classes,
-            wider: longer(alloc, &self.wider, wider.as_slice())?,
-            flow: self.flow.extended(alloc, &more)?,
-        })
+        self.copied(alloc)?.grown(alloc, old, new)
+    }
+
+    /// The links of the modules and of one more, where these are those of the modules alone.
+    ///
+    /// Together the modules are as `edges` takes them. Of the old ones numbers of types and kinds of types and branches
+    /// are looked at, and types where they are new with a module. Names of functions are looked at only where the new
+    /// module imports some, or has some that old ones import, and code only where it imports a name that only the new
+    /// module's functions have.
+    pub fn grown(self, alloc: Global, old: &[Placed], new: &Placed) -> Result<KeptGraph, AllocError>
+        requires graph { HaveGraph (old.now ++ new.now ∷ []) }
+        requires is { IsGraphOf old.now self }
+        ensures is { IfOk result (IsGraphOf (old.now ++ new.now ∷ [])) }
+        ensures edges { IfOk result (λ graph. IsLonger self.flow.edges graph.flow.edges) }
+    {
+        let more = self.addition(alloc, old, new)?;
+        self.with(alloc, more)
     }
 
     /// Some of the direct edges of the modules: a chain of them joins what any direct edge joins.

@@ -12,6 +12,7 @@
 //! some that they import. Open: nothing.
 #![tactic(auto)]
 
+mod addition;
 mod branch_facts;
 mod cell;
 mod direct;

@@ -9,8 +9,8 @@ use Rattle.cfi_graph.specs.Live.{live_of}
 use Rattle.cfi_policy.specs.Book.{KeptImage, StandsFor}
 use Rattle.cfi_policy.specs.Code.{IsCodeOf}
 use Rattle.cfi_policy.specs.Image.{HaveImage}
-use Rattle.cfi_modules.specs.Series.{Series, live_in, without_last, AreAllLive, EndsLive}
-use Rattle.cfi_modules.proofs.LiveLemmas.{all_are_live, live_more}
+use Rattle.cfi_modules.specs.Series.{Series, live_in, without_last, EndsLive}
+use Rattle.cfi_modules.proofs.LiveLemmas.{live_more}
 use Rattle.cfi_ledger.specs.Roster.{IsBookOfSeries}
 use Rattle.cfi_ledger.proofs.JoinedLemmas.{init_of}
 
@@ -25,10 +25,6 @@ pub image_there : (ms all : List Placed) (words code_words : ℕ) → ms ≡ all
     → HaveImage all code_words → HaveImage ms words
 image_there ms all words code_words is size image =
     subst (λ xs. HaveImage xs words) (sym is) (subst (HaveImage all) (sym size) image)
-
--- where none was retired, all are live
-pub all_live : (series : Series) → AreAllLive series → live_in series ≡ series.placed
-all_live series all = ap (live_of series.placed) all ∙ all_are_live series.placed
 
 -- class numbers of the live ones, and the code of all, are those of the series' book
 pub book_is : (series : Series) (live : List Placed) (words : ℕ) (book : KeptImage) → live ≡ live_in series

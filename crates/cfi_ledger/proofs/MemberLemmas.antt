@@ -12,16 +12,9 @@ use Rattle.cfi_valid.specs.Growth.{AreUpTo}
 use Rattle.cfi_valid.specs.Journal.{JournalState, members_of, live_in}
 use Rattle.cfi_valid.specs.Loaded.{LoadedModule, IsLoaded, is_retired_by, is_live, live_flags}
 use Rattle.cfi_valid.specs.declared.retirement.Retirement.{Retirement}
+use Rattle.cfi_valid.proofs.LiveLemmas.{and_true, or_false}
 
 -- ---- tests
-
-and_true : (a b : Bool) → b ≡ true → a && b ≡ a
-and_true true b is = is
-and_true false b is = refl
-
-or_false : (a b : Bool) → b ≡ false → a || b ≡ a
-or_false true b is = refl
-or_false false b is = is
 
 or_true : (a b : Bool) → b ≡ true → a || b ≡ true
 or_true true b is = refl

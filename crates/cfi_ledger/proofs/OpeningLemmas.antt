@@ -27,7 +27,7 @@ use Rattle.cfi_ledger.specs.Plans.{CanStart}
 use Rattle.cfi_valid.specs.Opening.{IsFirstLost}
 use Rattle.cfi_ledger.specs.Roster.{Roster, IsBookOfRoster, IsImageOfRoster, live_placed, loaded_in_roster, members_in_roster, origin_of, series_of}
 use Rattle.cfi_ledger.specs.Starts.{AreStarted, opened_state}
-use Rattle.cfi_ledger.proofs.BookLemmas.{all_live}
+use Rattle.cfi_modules.proofs.LiveLemmas.{all_live_in}
 use Rattle.cfi_ledger.proofs.EntryLemmas.{among_self, loaded_all}
 use Rattle.cfi_ledger.proofs.MemberLemmas.{stays, flags_stay}
 use Rattle.cfi_valid.proofs.KeptLemmas.{places_are}
@@ -108,7 +108,7 @@ module _ (plan : Plan) (modules : List Module) (can : CanStart plan modules) (r 
   pub start_book : (book : KeptImage) → IsBookOfRoster r book → IsImageOfRoster r book.image
   start_book book of =
       subst (λ (ms : List Placed). IsImage (DirectEdge ms) r.placed r.code_words book.image)
-      (all_live (series_of r) all.live) of.image
+      (all_live_in (series_of r) all.live) of.image
 
   pub first_lost : (guest : ℕ) → IsFirstOut plan r.placed guest → IsFirstLost plan modules guest
   first_lost guest out = record {

@@ -27,7 +27,7 @@ use Rattle.cfi_ledger.specs.declared.fault.OpenFault.TheVariants.{NoEntry}
 use Rattle.cfi_ledger.specs.declared.fault.StartFault.TheVariants.{Open}
 use Rattle.cfi_ledger.specs.Roster.{Roster, HasJoined, line_by, loaded_in_roster, loaded_of, origin_of, series_of}
 use Rattle.cfi_ledger.specs.Starts.{AreStarted, opened_state, start_fault_of}
-use Rattle.cfi_ledger.proofs.BookLemmas.{all_live}
+use Rattle.cfi_modules.proofs.LiveLemmas.{all_live_in}
 use Rattle.cfi_ledger.proofs.JoinedLemmas.{joined_roster}
 use Rattle.cfi_valid.proofs.KeptLemmas.{loaded_more, places_are}
 
@@ -122,7 +122,7 @@ module _ (plan : Plan) (modules : List Module) where
           let joins : Joins plan.code_words r.placed r.placed unplaced p =
           subst (λ (n : ℕ). Joins n r.placed r.placed unplaced p) so_far.roster_is.code_words_are
           (subst (λ (ms : List Placed). Joins r.code_words r.placed ms unplaced p)
-          (all_live (series_of r) so_far.live) joined.joins) in
+          (all_live_in (series_of r) so_far.live) joined.joins) in
           let name : one.name ≡ planned_name plan.modules number =
           sym (ap (λ o. option_map_or (λ (x : PlanModule). x.name) o [])
           (slice_get-get_or plan.modules number one within ∙ ap (λ (x : PlanModule). Some x) (sym is))) in
@@ -154,7 +154,7 @@ module _ (plan : Plan) (modules : List Module) where
         refused : IsJoinFault r.code_words r.placed r.placed unplaced fault
         refused =
             subst (λ (ms : List Placed). IsJoinFault r.code_words r.placed ms unplaced fault)
-            (all_live (series_of r) so_far.live) why
+            (all_live_in (series_of r) so_far.live) why
 
         first_unjoined : IsFirstUnjoined plan modules number fault
         first_unjoined =

@@ -110,7 +110,7 @@ impl Book {
     /// A class of which something had a number has the least of these. The new classes, in the order of their least
     /// slots, take the least number each that nothing had and none of them has taken. The code has the new module's
     /// words at its place, so it is that of all modules whose code it was, and of the new one. Together the modules are
-    /// as `image_of` takes them. Their links are not worked out anew: what is looked at is as `extended` of `KeptGraph`
+    /// as `image_of` takes them. Their links are not worked out anew: what is looked at is as `grown` of `KeptGraph`
     /// says.
     pub fn extended(&self, alloc: Global, old: &[Placed], new: &Placed) -> Result<Book, AllocError>
         requires modules { HaveImage (old.now ++ new.now ∷ []) (length self.now.image.tary) }

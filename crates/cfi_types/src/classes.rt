@@ -41,14 +41,22 @@ impl Classes {
         self.rows[table].as_slice()
     }
 
+    /// A copy.
+    pub fn copied(&self, alloc: Global) -> Result<Classes, AllocError>
+        ensures { IfOk result (λ all. all ≡ self.now) }
+    {
+        let mut rows = Vec::with_capacity(alloc, self.rows.len())?;
+        for row in &self.rows {
+            rows.push(Vec::from_slice(alloc, row.as_slice())?)?;
+        }
+        Ok(Classes { rows })
+    }
+
     // A copy with one more table's numbers.
     pub(crate) fn with_row(&self, alloc: Global, row: Vec<u32>) -> Result<Classes, AllocError>
         ensures { IfOk result (λ all. all ≡ self.now ++ row.items ∷ []) }
     {
-        let mut rows = Vec::with_capacity(alloc, self.rows.len() + 1)?;
-        for old in &self.rows {
-            rows.push(Vec::from_slice(alloc, old.as_slice())?)?;
-        }
+        let mut rows = self.copied(alloc)?.rows;
         rows.push(row)?;
         Ok(Classes { rows })
     }

@@ -19,7 +19,7 @@ use Rattle.cfi_valid.proofs.LiveLemmas.{module_policy, retired_policy, above_app
 
 -- ---- later states
 
-same_later : (s : JournalState) → IsLater s s
+pub same_later : (s : JournalState) → IsLater s s
 same_later s = record {
   more = [];
   is = sym (append-nil s.loaded);
@@ -31,7 +31,7 @@ same_later s = record {
   epoch = omega arith;
 }
 
-later_later : (a b c : JournalState) → IsLater a b → IsLater b c → IsLater a c
+pub later_later : (a b c : JournalState) → IsLater a b → IsLater b c → IsLater a c
 later_later a b c p q = record {
   more = p.more ++ q.more;
   is = q.is ∙ ap (λ (xs : List LoadedModule). xs ++ q.more) p.is ∙ append_assoc a.loaded p.more q.more;

@@ -22,11 +22,11 @@ use Rattle.cfi_valid.proofs.LineLemmas.{line_does}
 
 -- ---- tests
 
-and_true : (a b : Bool) → b ≡ true → a && b ≡ a
+pub and_true : (a b : Bool) → b ≡ true → a && b ≡ a
 and_true true b is = is
 and_true false b is = refl
 
-or_false : (a b : Bool) → b ≡ false → a || b ≡ a
+pub or_false : (a b : Bool) → b ≡ false → a || b ≡ a
 or_false true b is = refl
 or_false false b is = is
 

@@ -7,7 +7,8 @@ use Rattle.cfi_world.specs.declared.event.Event.TheVariants as events
 use Rattle.cfi_sim.specs.declared.aim.Aim.{Aim}
 use Rattle.cfi_sim.specs.declared.aim.Aim.TheVariants.{Loading, Refreshing}
 use Rattle.cfi_sim.specs.Stage.{Stage, with_journal_line, IsMade, dropped, after_event}
-use Rattle.cfi_sim.proofs.guests.RunsLemmas.{same_later, runs_on}
+use Rattle.cfi_valid.proofs.GrowthLemmas.{same_later}
+use Rattle.cfi_sim.proofs.guests.RunsLemmas.{runs_on}
 use Rattle.cfi_sim.proofs.journal.MadeLemmas.{loaded_later}
 use Rattle.cfi_world.proofs.ForceLemmas.{turn_on}
 use Rattle.cfi_sim.specs.Agrees.{TablesAgree}

@@ -17,7 +17,8 @@ use Rattle.cfi_plan.specs.Plan.{IsPlan}
 use Rattle.cfi_sim.specs.Stage.{Stage}
 use Rattle.cfi_sim.specs.Valid.{IsStart}
 use Rattle.cfi_sim.proofs.guests.TurnLemmas.{AllRun}
-use Rattle.cfi_sim.proofs.guests.RunsLemmas.{HasRun, same_later}
+use Rattle.cfi_valid.proofs.GrowthLemmas.{same_later}
+use Rattle.cfi_sim.proofs.guests.RunsLemmas.{HasRun}
 use Rattle.cfi_sim.proofs.journal.StartLemmas.{world, guest_start, none_later}
 use Rattle.cfi_valid.specs.Journal.{members_of}
 use Rattle.cfi_valid.specs.Loaded.{start_fills, Left}

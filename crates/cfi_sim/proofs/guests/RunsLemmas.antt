@@ -1,7 +1,6 @@
 -- What holds of each guest at each stage: it has replayed its log, and what it has logged fits.
-use Rattle.std.proofs.Common.{◌≡◌, ℕ, ◌≤◌, ◌<◌, ◌++◌, Bool, true, false, List, [], ◌∷◌, length, Some, None, refl, sym, ◌∙◌, ap, subst, arith, append_assoc}
+use Rattle.std.proofs.Common.{◌≡◌, ℕ, ◌≤◌, Bool, true, false, List, [], length, Some, None, sym, subst, arith}
 use Rattle.std.specs.List.{AllByRecursion, slice_get}
-use Rattle.std.proofs.lemmas.List.{append-nil}
 use Rattle.cfi_aux.specs.declared.modules.Module.{Module}
 use Rattle.cfi_plan.specs.declared.plan.Plan.{Plan}
 use Rattle.cfi_unit.specs.declared.fill.Fill.{Fill}
@@ -22,42 +21,11 @@ use Rattle.cfi_valid.specs.Guests.{EntersAt, GuestBegins}
 use Rattle.cfi_valid.specs.Bare.{is_bare_plan}
 use Rattle.cfi_valid.specs.Journal.{JournalState, members_of}
 use Rattle.cfi_valid.specs.Loaded.{LoadedModule, placed_modules, loaded_by, start_fills, Left}
-use Rattle.cfi_valid.specs.declared.retirement.Retirement.{Retirement}
 use Rattle.cfi_valid.specs.Replay.{Replays}
 use Rattle.cfi_valid.specs.Running.{HasReplayed}
-use Rattle.cfi_valid.proofs.GrowthLemmas.{loaded_stays, start_fills_stay}
-use Rattle.cfi_valid.proofs.LiveLemmas.{module_policy, retired_policy, above_append, above_less}
+use Rattle.cfi_valid.proofs.GrowthLemmas.{later_later, loaded_stays, start_fills_stay}
 use Rattle.cfi_modules.specs.Entry.{IsEntryIn}
 use Rattle.cfi_world.proofs.LaterLemmas.{guest_later}
-
--- ---- later states
-
-pub same_later : (s : JournalState) → IsLater s s
-same_later s = record {
-  more = [];
-  is = sym (append-nil s.loaded);
-  above = tt;
-  gone = [];
-  retired_is = sym (append-nil s.retired);
-  after = tt;
-  policy = omega arith;
-  epoch = omega arith;
-}
-
-pub later_later : (a b c : JournalState) → IsLater a b → IsLater b c → IsLater a c
-later_later a b c p q = record {
-  more = p.more ++ q.more;
-  is = q.is ∙ ap (λ (xs : List LoadedModule). xs ++ q.more) p.is ∙ append_assoc a.loaded p.more q.more;
-  above = above_append LoadedModule module_policy a.policy p.more q.more p.above
-      (above_less LoadedModule module_policy b.policy a.policy q.more p.policy q.above);
-  gone = p.gone ++ q.gone;
-  retired_is = q.retired_is ∙ ap (λ (xs : List Retirement). xs ++ q.gone) p.retired_is
-      ∙ append_assoc a.retired p.gone q.gone;
-  after = above_append Retirement retired_policy a.policy p.gone q.gone p.after
-      (above_less Retirement retired_policy b.policy a.policy q.gone p.policy q.after);
-  policy = omega (arith, p.policy, q.policy);
-  epoch = omega (arith, p.epoch, q.epoch);
-}
 
 module _ (plan : Plan) (modules : List Module) where
   abbrev pub course_at : JournalState → Course

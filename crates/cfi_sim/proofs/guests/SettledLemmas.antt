@@ -8,7 +8,8 @@ use Rattle.cfi_sim.specs.declared.found.Found.TheVariants.{Unknown as NoModuleFo
 use Rattle.cfi_sim.specs.Events.{IsFound, reply_by}
 use Rattle.cfi_sim.specs.Agrees.{TablesAgree}
 use Rattle.cfi_model.specs.Raw.{Raw}
-use Rattle.cfi_sim.proofs.guests.RunsLemmas.{course_at, HasRun, same_later}
+use Rattle.cfi_valid.proofs.GrowthLemmas.{same_later}
+use Rattle.cfi_sim.proofs.guests.RunsLemmas.{course_at, HasRun}
 use Rattle.cfi_word.specs.declared.services.TheConstants as services
 use Rattle.cfi_model.specs.Effect.{effect, is_in_code}
 use Rattle.cfi_sim.specs.declared.limits.TheConstants.{NOT_LOADED}

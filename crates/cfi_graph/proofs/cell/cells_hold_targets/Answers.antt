@@ -1,4 +1,4 @@
-use Rattle.std.proofs.Common.{◌≡◌, ◌∙◌, ℕ, None, Some, unwrap_or, inl, inr, refl, sym, ap, subst}
+use Rattle.std.proofs.Common.{◌∙◌, unwrap_or, inl, inr, sym, ap, subst}
 use Rattle.cfi_graph.specs.Direct.{IsImportTarget}
 use Rattle.cfi_graph.specs.Named.{entry_among}
 use Rattle.cfi_graph.proofs.FirstLemmas.{none_or_some}

@@ -6,7 +6,8 @@ use Rattle.cfi_policy.specs.Code.{IsCodeOf}
 use Rattle.cfi_policy.specs.Image.{HaveImage}
 use Rattle.cfi_policy.proofs.EdgeLemmas.{apart_in}
 use Rattle.cfi_ledger.specs.Roster.{IsBookOfSeries}
-use Rattle.cfi_ledger.proofs.BookLemmas.{if_ok_three, all_live, book_is}
+use Rattle.cfi_ledger.proofs.BookLemmas.{if_ok_three, book_is}
+use Rattle.cfi_modules.proofs.LiveLemmas.{all_live_in}
 use Rattle.cfi_ledger.proofs.book.book_of.Goals as goal
 
 pub code_of-requires : goal.code_of-requires
@@ -33,5 +34,5 @@ returns c =
     (λ book. AreLabels (DirectEdge ms) words book.image.tary book.image.bary)
     (λ book. book.image.code ≡ c.as_slice.result.now) (IsBookOfSeries series)
     (λ book stands labels same.
-    book_is series ms words book (value ∙ sym (all_live series c.requires)) c.layout-layout.ensures stands labels
+    book_is series ms words book (value ∙ sym (all_live_in series c.requires)) c.layout-layout.ensures stands labels
     (subst (IsCodeOf series.placed series.code_words) (sym same) code)) made.stands made.labels made.code

@@ -4,8 +4,8 @@ use Rattle.cfi_graph.specs.Reading.{HaveGraph}
 use Rattle.cfi_graph.proofs.OneMoreLemmas.{graph_take, next_taken}
 use Rattle.cfi_graph.proofs.kept_graph.KeptGraph.of.Goals as goal
 
-pub extended-requires-clause-graph : goal.extended-requires-clause-graph
-extended-requires-clause-graph c =
+pub grown-requires-clause-graph : goal.grown-requires-clause-graph
+grown-requires-clause-graph c =
     let ms = c.args.modules.now in
     let n = c.loop-number.number in
     subst HaveGraph (sym (next_taken ms n c.index-modules-number.result c.loop-number-test.true c.index-modules-number.is))

@@ -3,10 +3,10 @@ use Rattle.cfi_flow.specs.Flow.{flipped, AreBelow}
 use Rattle.cfi_flow.specs.inner.KeptWays.{Ways, AddsLongerWays}
 use Rattle.cfi_flow.proofs.RowWayLemmas.{flipped_below}
 use Rattle.cfi_flow.proofs.SideLemmas.{behind_among, kept_longer, longer_ways}
-use Rattle.cfi_flow.proofs.kept_ways.KeptWays.extended.Goals as goal
+use Rattle.cfi_flow.proofs.kept_ways.KeptWays.grown.Goals as goal
 
-pub extended-requires-2-clause-arrows : goal.extended-requires-2-clause-arrows
-extended-requires-2-clause-arrows c =
+pub grown-requires-2-clause-arrows : goal.grown-requires-2-clause-arrows
+grown-requires-2-clause-arrows c =
     let is : c.as_slice.result.now ≡ map flipped c.args.arrows.now =
     c.as_slice.ensures.value ∙ c.in_ok-turned.ensures in
     subst (λ ls. AreBelow c.args.nodes ls) (sym is) (flipped_below c.args.nodes c.args.arrows.now c.requires.arrows)
