@@ -1,2 +1,5 @@
 pub mod NumberLemmas
 pub mod AllLemmas
+pub mod OperandLemmas
+pub mod TableLemmas
+pub mod ShortLemmas

@@ -1,7 +1,9 @@
+pub mod Table
 pub mod Number
 pub mod Register
 pub mod Operand
-pub mod Called
+pub mod Immediate
+pub mod Target
+pub mod Keyword
 pub mod Statement
 pub mod Line
-pub mod inner

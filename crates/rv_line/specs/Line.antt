@@ -8,9 +8,9 @@ use Rattle.rv_line.specs.declared.statement.Statement.TheVariants.{Blank}
 use Rattle.rv_line.specs.declared.line.Line.{Line}
 use Rattle.cfi_text.specs.Words.{unblanked, first_word, after_word}
 use Rattle.cfi_text.specs.Names.{name_in}
-use Rattle.rv_line.specs.declared.called.Keyword.{Keyword}
-use Rattle.rv_line.specs.declared.called.Keyword.TheVariants as keywords
-use Rattle.rv_line.specs.Called.{keyword_called}
+use Rattle.rv_line.specs.declared.keyword.Directive.{Directive}
+use Rattle.rv_line.specs.declared.keyword.Directive.TheVariants.{Node, Func, Kind}
+use Rattle.rv_line.specs.Keyword.{called, directive_text, directives}
 use Rattle.rv_line.specs.Operand.{cut}
 use Rattle.rv_line.specs.Statement.{form_of}
 
@@ -23,16 +23,16 @@ words_form (byte ∷ bytes) rest = form_of (byte ∷ bytes) rest
 abbrev pub statement_in : (text : List ℕ) → Option Statement
 statement_in text = words_form (first_word text) (after_word text)
 
--- a line of the records begins with this word
-abbrev pub is_of_records : Option Keyword → Bool
-is_of_records (Some keywords.Node) = true
-is_of_records (Some keywords.Func) = true
-is_of_records (Some keywords.Kind) = true
+-- a directive of the records
+abbrev pub is_of_records : Option Directive → Bool
+is_of_records (Some Node) = true
+is_of_records (Some Func) = true
+is_of_records (Some Kind) = true
 is_of_records other = false
 
 -- the word is one that asks for tables of types and functions
 abbrev pub begins_records : (word : List ℕ) → Bool
-begins_records word = is_of_records (keyword_called word)
+begins_records word = is_of_records (called directive_text directives word)
 
 -- what a text says after a label, if one is there
 abbrev pub line_of : (label : Option (List ℕ)) → (text : List ℕ) → Line

@@ -1,15 +1,15 @@
--- The forms of statements, a case a keyword.
-use Rattle.std.specs.Prelude.{ℕ, Bool, true, false, ◌==◌, nat_le, ℤ, pos, List, [], ◌∷◌, length, codes, if◌then◌else◌, Option, Some, None, option_map, option_and_then, is_some}
+-- The statements of a source, by their keyword and operands.
+use Rattle.std.specs.Prelude.{ℕ, Bool, true, false, not, ◌==◌, nat_le, ℤ, pos, List, [], ◌∷◌, ◌++◌, length, codes, if◌then◌else◌, Option, Some, None, option_map, option_and_then, is_some}
 use Rattle.std.specs.Str.{bytes_eq}
-use Rattle.rv_insn.specs.declared.insn.Cond.{Cond}
-use Rattle.rv_insn.specs.declared.insn.LoadKind.{LoadKind}
-use Rattle.rv_insn.specs.declared.insn.StoreKind.{StoreKind}
 use Rattle.rv_insn.specs.declared.insn.ImmOp.{ImmOp}
 use Rattle.rv_insn.specs.declared.insn.ImmOp.TheVariants.{Addi}
-use Rattle.rv_insn.specs.declared.insn.Op.{Op}
 use Rattle.rv_insn.specs.Rows.{imm_funct7}
-use Rattle.rv_line.specs.declared.called.Keyword.{Keyword}
-use Rattle.rv_line.specs.declared.called.Keyword.TheVariants as keywords
+use Rattle.rv_line.specs.declared.keyword.Mnemonic.{Mnemonic}
+use Rattle.rv_line.specs.declared.keyword.Mnemonic.TheVariants as mnemonic
+use Rattle.rv_line.specs.declared.keyword.Short.{Short}
+use Rattle.rv_line.specs.declared.keyword.Short.TheVariants as short
+use Rattle.rv_line.specs.declared.keyword.Directive.{Directive}
+use Rattle.rv_line.specs.declared.keyword.Directive.TheVariants as directive
 use Rattle.rv_line.specs.declared.statement.Low.{Low}
 use Rattle.rv_line.specs.declared.statement.Low.TheVariants as lows
 use Rattle.rv_line.specs.declared.statement.High.{High}
@@ -20,165 +20,75 @@ use Rattle.rv_line.specs.declared.statement.Statement.{Statement}
 use Rattle.rv_line.specs.declared.statement.Statement.TheVariants as statements
 use Rattle.cfi_text.specs.Words.{words_in}
 use Rattle.cfi_text.specs.Names.{name_in}
+use Rattle.rv_line.specs.Immediate.{low_in, high_in, place_in}
+use Rattle.rv_line.specs.Keyword.{called, mnemonic_text, mnemonics, short_text, shorts, directive_text, directives, node_kind_text, node_kinds}
 use Rattle.rv_line.specs.Number.{integer_in}
+use Rattle.rv_line.specs.Operand.{only_word, is_empty, operands_in, operand, no_operands, one, two, three}
 use Rattle.rv_line.specs.Register.{register_in}
-use Rattle.rv_line.specs.Called.{op_called, imm_op_called, load_called, store_called, cond_called, keyword_called, node_kind_called}
-use Rattle.rv_line.specs.Operand.{only_word, word_in, two_in, three_in, low_in, high_in, place_in, target_in, datum_in}
+use Rattle.rv_line.specs.Target.{target_in, datum_in}
 use Rattle.cfi_values.specs.Some.{◌>>=◌}
 
--- `add rd,rs1,rs2` and its kin
-unfoldable pub op_form : Op → (rest : List ℕ) → Option Statement
-op_form op rest = do
-  words ← three_in rest
-  rd ← register_in words.0
-  rs1 ← register_in words.1
-  rs2 ← register_in words.2
-  Some (statements.Op op rd rs1 rs2)
-
--- a shift takes a number alone
-abbrev pub is_number : Low → Bool
-is_number (lows.Number number) = true
-is_number (lows.Lo name) = false
-is_number (lows.PcrelLo name) = false
+-- ---- the instructions, as the manual writes them
 
 -- an operation takes the immediate: one that shifts takes numbers alone
 abbrev pub takes : ImmOp → Low → Bool
-takes op imm = if is_some (imm_funct7 op) then is_number imm else true
+takes op (lows.Number number) = true
+takes op (lows.Lo name) = not (is_some (imm_funct7 op))
+takes op (lows.PcrelLo name) = not (is_some (imm_funct7 op))
 
--- `addi rd,rs1,I` and its kin
-unfoldable pub imm_op_form : ImmOp → (rest : List ℕ) → Option Statement
-imm_op_form op rest = do
-  words ← three_in rest
-  rd ← register_in words.0
-  rs1 ← register_in words.1
-  imm ← low_in words.2
-  if takes op imm then Some (statements.OpImm op rd rs1 imm) else None
+-- an operation on a register and an immediate that it takes
+abbrev pub imm_op_by : ImmOp → (rd rs1 : ℕ) → Low → Option Statement
+imm_op_by op rd rs1 imm = if takes op imm then Some (statements.OpImm op rd rs1 imm) else None
 
--- a register and a place: what a load, a store and an indirect jump have
-unfoldable pub register_and_place : (rest : List ℕ) → Option (ℕ × Low × ℕ)
-register_and_place rest = do
-  words ← two_in rest
-  register ← register_in words.0
-  place ← place_in words.1
-  Some (register, place.0, place.1)
-
--- `lw rd,I(rs1)` and its kin
-abbrev pub load_form : LoadKind → (rest : List ℕ) → Option Statement
-load_form kind rest = option_map (λ p. statements.Load kind p.0 p.2 p.1) (register_and_place rest)
-
--- `sw rs2,I(rs1)` and its kin
-abbrev pub store_form : StoreKind → (rest : List ℕ) → Option Statement
-store_form kind rest = option_map (λ p. statements.Store kind p.2 p.0 p.1) (register_and_place rest)
-
--- `jalr rd,I(rs1)`
-abbrev pub jalr_form : (rest : List ℕ) → Option Statement
-jalr_form rest = option_map (λ p. statements.Jalr p.0 p.2 p.1) (register_and_place rest)
-
--- `beq rs1,rs2,T` and its kin
-unfoldable pub branch_form : Cond → (rest : List ℕ) → Option Statement
-branch_form cond rest = do
-  words ← three_in rest
-  rs1 ← register_in words.0
-  rs2 ← register_in words.1
-  target ← target_in words.2
-  Some (statements.Branch cond rs1 rs2 target)
-
--- a register and an upper immediate
-unfoldable pub register_and_high : (rest : List ℕ) → Option (ℕ × High)
-register_and_high rest = do
-  words ← two_in rest
-  rd ← register_in words.0
-  imm ← high_in words.1
-  Some (rd, imm)
-
--- `lui rd,U`, which has no `%pcrel_hi`
+-- `lui`, which has no `%pcrel_hi`
 abbrev pub lui_by : (rd : ℕ) → High → Option Statement
 lui_by rd (highs.Number number) = Some (statements.Lui rd (highs.Number number))
 lui_by rd (highs.Hi name) = Some (statements.Lui rd (highs.Hi name))
 lui_by rd (highs.PcrelHi name) = None
 
--- `lui` with a register and an upper immediate
-abbrev pub lui_form : (rest : List ℕ) → Option Statement
-lui_form rest = option_and_then (λ p. lui_by p.0 p.1) (register_and_high rest)
-
--- `auipc rd,U`
-abbrev pub auipc_form : (rest : List ℕ) → Option Statement
-auipc_form rest = option_map (λ p. statements.Auipc p.0 p.1) (register_and_high rest)
-
--- `jal rd,T`
-unfoldable pub jal_form : (rest : List ℕ) → Option Statement
-jal_form rest = do
-  words ← two_in rest
-  rd ← register_in words.0
-  target ← target_in words.1
-  Some (statements.Jal rd target)
-
 -- a statement without operands
-abbrev pub alone : Statement → (words : List (List ℕ)) → Option Statement
-alone statement [] = Some statement
-alone statement (word ∷ words) = None
+abbrev pub alone : Statement → (operands : List (List (List ℕ))) → Option Statement
+alone statement operands = if no_operands operands then Some statement else None
 
--- a statement without operands
-abbrev pub bare_form : Statement → (rest : List ℕ) → Option Statement
-bare_form statement rest = alone statement (words_in rest)
+-- the instruction of a mnemonic and its operands
+abbrev pub insn_in : Mnemonic → (operands : List (List (List ℕ))) → Option Statement
+insn_in (mnemonic.Op op) operands =
+    option_map (λ p. statements.Op op p.0 p.1 p.2) (three register_in register_in register_in operands)
+insn_in (mnemonic.OpImm op) operands =
+    option_and_then (λ p. imm_op_by op p.0 p.1 p.2) (three register_in register_in low_in operands)
+insn_in (mnemonic.Load kind) operands =
+    option_map (λ p. statements.Load kind p.0 p.1.base p.1.imm) (two register_in place_in operands)
+insn_in (mnemonic.Store kind) operands =
+    option_map (λ p. statements.Store kind p.1.base p.0 p.1.imm) (two register_in place_in operands)
+insn_in (mnemonic.Branch cond) operands =
+    option_map (λ p. statements.Branch cond p.0 p.1 p.2) (three register_in register_in target_in operands)
+insn_in mnemonic.Lui operands = option_and_then (λ p. lui_by p.0 p.1) (two register_in high_in operands)
+insn_in mnemonic.Auipc operands = option_map (λ p. statements.Auipc p.0 p.1) (two register_in high_in operands)
+insn_in mnemonic.Jal operands = option_map (λ p. statements.Jal p.0 p.1) (two register_in target_in operands)
+insn_in mnemonic.Jalr operands =
+    option_map (λ p. statements.Jalr p.0 p.1.base p.1.imm) (two register_in place_in operands)
+insn_in mnemonic.Fence operands = alone statements.Fence operands
+insn_in mnemonic.Ecall operands = alone statements.Ecall operands
+insn_in mnemonic.Ebreak operands = alone statements.Ebreak operands
 
--- the short forms
-unfoldable pub mv_form : (rest : List ℕ) → Option Statement
-mv_form rest = do
-  words ← two_in rest
-  rd ← register_in words.0
-  rs1 ← register_in words.1
-  Some (statements.OpImm Addi rd rs1 (lows.Number (pos 0)))
+-- ---- the short forms
 
--- `li` with a register and a number
-unfoldable pub li_form : (rest : List ℕ) → Option Statement
-li_form rest = do
-  words ← two_in rest
-  rd ← register_in words.0
-  number ← integer_in words.1
-  Some (statements.Li rd number)
+-- `nop` stands for `addi x0,x0,0`, `mv rd,rs` for `addi rd,rs,0`, `j T` for `jal x0,T`, `jr rs` for `jalr x0,0(rs)`
+abbrev pub short_in : Short → (operands : List (List (List ℕ))) → Option Statement
+short_in short.Nop operands =
+    if no_operands operands
+    then insn_in (mnemonic.OpImm Addi) (operand (codes "x0") ∷ operand (codes "x0") ∷ operand (codes "0") ∷ []) else None
+short_in short.Mv operands = insn_in (mnemonic.OpImm Addi) (operands ++ operand (codes "0") ∷ [])
+short_in short.J operands = insn_in mnemonic.Jal (operand (codes "x0") ∷ operands)
+short_in short.Jr operands =
+    option_map (λ rs. statements.Jalr 0 rs (lows.Number (pos 0))) (one register_in operands)
+short_in short.Li operands = option_map (λ p. statements.Li p.0 p.1) (two register_in integer_in operands)
+short_in short.La operands = option_map (λ p. statements.La p.0 p.1) (two register_in name_in operands)
+short_in short.Ret operands = alone statements.Ret operands
+short_in short.Call operands = option_map statements.Call (one name_in operands)
+short_in short.Tail operands = option_map statements.Tail (one name_in operands)
 
--- `la` with a register and a name
-unfoldable pub la_form : (rest : List ℕ) → Option Statement
-la_form rest = do
-  words ← two_in rest
-  rd ← register_in words.0
-  name ← name_in words.1
-  Some (statements.La rd name)
-
--- `j` with a target
-unfoldable pub j_form : (rest : List ℕ) → Option Statement
-j_form rest = do
-  word ← word_in rest
-  target ← target_in word
-  Some (statements.Jal 0 target)
-
--- `jr` with a register
-unfoldable pub jr_form : (rest : List ℕ) → Option Statement
-jr_form rest = do
-  word ← word_in rest
-  rs1 ← register_in word
-  Some (statements.Jalr 0 rs1 (lows.Number (pos 0)))
-
--- a statement of one name
-unfoldable pub name_form : (rest : List ℕ) → Option (List ℕ)
-name_form rest = do
-  word ← word_in rest
-  name_in word
-
--- `.word` with a datum
-unfoldable pub word_form : (rest : List ℕ) → Option Statement
-word_form rest = do
-  word ← word_in rest
-  datum ← datum_in word
-  Some (statements.Word datum)
-
--- `.zero` with a number
-unfoldable pub zero_form : (rest : List ℕ) → Option Statement
-zero_form rest = do
-  word ← word_in rest
-  number ← integer_in word
-  Some (statements.Zero number)
+-- ---- the directives
 
 -- what all of these words say: numbers, or names
 abbrev pub onto : {X : Type 0} → Option X → Option (List X) → Option (List X)
@@ -219,7 +129,7 @@ node_by kind fields = if has_count kind (length fields) then Some (statements.No
 abbrev pub node_words : (words : List (List ℕ)) → Option Statement
 node_words [] = None
 node_words (word ∷ words) = do
-  kind ← node_kind_called word
+  kind ← called node_kind_text node_kinds word
   fields ← integers_in words
   node_by kind fields
 
@@ -252,7 +162,7 @@ unfoldable pub kind_by : (kind : List ℕ) → (words : List (List ℕ)) → Opt
 kind_by kind words =
     if bytes_eq kind (codes "call") then option_map statements.KindCall (only_integer words)
     else (if bytes_eq kind (codes "tail") then option_map statements.KindTail (only_integer words)
-    else (if bytes_eq kind (codes "return") then alone statements.KindReturn words
+    else (if bytes_eq kind (codes "return") then if is_empty words then Some statements.KindReturn else None
     else (if bytes_eq kind (codes "switch") then option_and_then switch_of (names_in words) else None)))
 
 -- the same by all its words
@@ -260,46 +170,29 @@ abbrev pub kind_words : (words : List (List ℕ)) → Option Statement
 kind_words [] = None
 kind_words (kind ∷ words) = kind_by kind words
 
--- the statement of a keyword
-abbrev pub keyword_form : Keyword → (rest : List ℕ) → Option Statement
-keyword_form keywords.Lui rest = lui_form rest
-keyword_form keywords.Auipc rest = auipc_form rest
-keyword_form keywords.Jal rest = jal_form rest
-keyword_form keywords.Jalr rest = jalr_form rest
-keyword_form keywords.Fence rest = bare_form statements.Fence rest
-keyword_form keywords.Ecall rest = bare_form statements.Ecall rest
-keyword_form keywords.Ebreak rest = bare_form statements.Ebreak rest
-keyword_form keywords.Nop rest = bare_form (statements.OpImm Addi 0 0 (lows.Number (pos 0))) rest
-keyword_form keywords.Mv rest = mv_form rest
-keyword_form keywords.Li rest = li_form rest
-keyword_form keywords.La rest = la_form rest
-keyword_form keywords.J rest = j_form rest
-keyword_form keywords.Jr rest = jr_form rest
-keyword_form keywords.Ret rest = bare_form statements.Ret rest
-keyword_form keywords.Call rest = option_map statements.Call (name_form rest)
-keyword_form keywords.Tail rest = option_map statements.Tail (name_form rest)
-keyword_form keywords.Text rest = bare_form statements.Text rest
-keyword_form keywords.Data rest = bare_form statements.Data rest
-keyword_form keywords.Globl rest = option_map statements.Globl (name_form rest)
-keyword_form keywords.Word rest = word_form rest
-keyword_form keywords.Zero rest = zero_form rest
-keyword_form keywords.Node rest = node_words (words_in rest)
-keyword_form keywords.Func rest = func_words (words_in rest)
-keyword_form keywords.EndFunc rest = bare_form statements.EndFunc rest
-keyword_form keywords.Kind rest = kind_words (words_in rest)
+-- the statement of a directive
+abbrev pub directive_in : Directive → (rest : List ℕ) → Option Statement
+directive_in directive.Text rest = alone statements.Text (operands_in rest)
+directive_in directive.Data rest = alone statements.Data (operands_in rest)
+directive_in directive.Globl rest = option_map statements.Globl (one name_in (operands_in rest))
+directive_in directive.Word rest = option_map statements.Word (one datum_in (operands_in rest))
+directive_in directive.Zero rest = option_map statements.Zero (one integer_in (operands_in rest))
+directive_in directive.Node rest = node_words (words_in rest)
+directive_in directive.Func rest = func_words (words_in rest)
+directive_in directive.EndFunc rest = alone statements.EndFunc (operands_in rest)
+directive_in directive.Kind rest = kind_words (words_in rest)
 
--- the form of what a word names, and the other where it names nothing
-abbrev pub form_or : {X : Type 0} → Option X → (X → (rest : List ℕ) → Option Statement) → (rest : List ℕ) →
-    (other : Option Statement) → Option Statement
-form_or None form rest other = other
-form_or (Some named) form rest other = form named rest
+-- ---- all statements
+
+-- the statement of what a keyword names, and the other where it names nothing
+abbrev pub said_or : {X : Type 0} → Option X → (says : X → Option Statement) → (other : Option Statement)
+    → Option Statement
+said_or None says other = other
+said_or (Some named) says other = says named
 
 -- the statement of a word and what comes after it
 unfoldable pub form_of : (word rest : List ℕ) → Option Statement
 form_of word rest =
-    form_or (op_called word) op_form rest (
-    form_or (imm_op_called word) imm_op_form rest (
-    form_or (load_called word) load_form rest (
-    form_or (store_called word) store_form rest (
-    form_or (cond_called word) branch_form rest (
-    form_or (keyword_called word) keyword_form rest None)))))
+    said_or (called mnemonic_text mnemonics word) (λ insn. insn_in insn (operands_in rest)) (
+    said_or (called short_text shorts word) (λ form. short_in form (operands_in rest)) (
+    said_or (called directive_text directives word) (λ what. directive_in what rest) None))

@@ -1,13 +1,13 @@
-//! The forms of directives that take several words.
+//! The directives.
 
 ghost use Rattle.std.specs.Prelude.{◌≡◌, IfOk, option_map, option_and_then};
-ghost use Rattle.rv_line.specs.Statement.{integers_in, names_in, has_count, node_words, func_by, func_words, only_integer, switch_of, kind_by, kind_words};
+ghost use Rattle.rv_line.specs.Statement.{integers_in, names_in, has_count, node_words, func_by, func_words, only_integer, switch_of, kind_by, kind_words, directive_in};
 ghost use Rattle.cfi_text.specs.Words.{words_in};
 
-use crate::called::node_kind_called;
+use crate::insn::alone;
+use crate::keyword::{Directive, node_kind_called};
 use crate::number::integer_of;
-use crate::operand::word_of;
-use crate::short::bare_form;
+use crate::operand::{one_of, word_of};
 use crate::statement::{NodeKind, Statement};
 use crate::table::is_named;
 use cfi_text::{name_of, next_word};
@@ -62,8 +62,8 @@ fn has_count(kind: NodeKind, count: usize) -> bool
     }
 }
 
-/// `.node KIND FIELDS`.
-pub fn node_form(alloc: Global, rest: &[u8]) -> Result<Option<Statement>, AllocError>
+// `.node KIND FIELDS`.
+fn node_form(alloc: Global, rest: &[u8]) -> Result<Option<Statement>, AllocError>
     ensures { IfOk result (λ found. found ≡ node_words (words_in rest.now)) }
 {
     let Some((word, rest)) = next_word(rest) else {
@@ -100,8 +100,8 @@ fn func_by(
     }
 }
 
-/// `.func NAME NODE` and `.func NAME NODE taken`.
-pub fn func_form(alloc: Global, rest: &[u8]) -> Result<Option<Statement>, AllocError>
+// `.func NAME NODE` and `.func NAME NODE taken`.
+fn func_form(alloc: Global, rest: &[u8]) -> Result<Option<Statement>, AllocError>
     ensures { IfOk result (λ found. found ≡ func_words (words_in rest.now)) }
 {
     let Some((name, rest)) = next_word(rest) else {
@@ -161,7 +161,7 @@ fn kind_by(alloc: Global, kind: &[u8], rest: &[u8]) -> Result<Option<Statement>,
         return Ok(only_integer(rest).map(Statement::KindTail));
     }
     if is_named(kind, "return") {
-        return Ok(bare_form(Statement::KindReturn, rest));
+        return Ok(next_word(rest).is_none().then_some(Statement::KindReturn));
     }
     if is_named(kind, "switch") {
         return switch_form(alloc, rest);
@@ -169,12 +169,33 @@ fn kind_by(alloc: Global, kind: &[u8], rest: &[u8]) -> Result<Option<Statement>,
     Ok(None)
 }
 
-/// `.kind call NODE`, `.kind tail NODE`, `.kind return` and `.kind switch NAME..`.
-pub fn kind_form(alloc: Global, rest: &[u8]) -> Result<Option<Statement>, AllocError>
+// `.kind call NODE`, `.kind tail NODE`, `.kind return` and `.kind switch NAME..`.
+fn kind_form(alloc: Global, rest: &[u8]) -> Result<Option<Statement>, AllocError>
     ensures { IfOk result (λ found. found ≡ kind_words (words_in rest.now)) }
 {
     match next_word(rest) {
         Some((kind, rest)) => kind_by(alloc, kind, rest),
         None => Ok(None),
+    }
+}
+
+/// The statement of a directive and what comes after it.
+pub fn directive_of(
+    alloc: Global,
+    directive: Directive,
+    rest: &[u8],
+) -> Result<Option<Statement>, AllocError>
+    ensures { IfOk result (λ found. found ≡ directive_in directive rest.now) }
+{
+    match directive {
+        Directive::Text => Ok(alone(Statement::Text, rest)),
+        Directive::Data => Ok(alone(Statement::Data, rest)),
+        Directive::Globl => Ok(one_of(alloc, rest)?.map(Statement::Globl)),
+        Directive::Word => Ok(one_of(alloc, rest)?.map(Statement::Word)),
+        Directive::Zero => Ok(one_of(alloc, rest)?.map(Statement::Zero)),
+        Directive::Node => node_form(alloc, rest),
+        Directive::Func => func_form(alloc, rest),
+        Directive::EndFunc => Ok(alone(Statement::EndFunc, rest)),
+        Directive::Kind => kind_form(alloc, rest),
     }
 }

@@ -5,9 +5,10 @@
 //! nothing.
 #![tactic(auto)]
 
-mod called;
 mod directives;
-mod forms;
+mod immediate;
+mod insn;
+mod keyword;
 mod line;
 mod number;
 mod operand;
@@ -15,6 +16,7 @@ mod register;
 mod short;
 mod statement;
 mod table;
+mod target;
 
 pub use line::{Line, read_line};
 pub use register::Register;

@@ -1,29 +1,17 @@
 //! The lines of a source.
 
-ghost use Rattle.std.specs.Prelude.{◌≡◌, IfOk, pos};
-ghost use Rattle.rv_insn.specs.declared.insn.ImmOp.TheVariants.{Addi};
-ghost use Rattle.rv_line.specs.declared.statement.Low.TheVariants as lows;
-ghost use Rattle.rv_line.specs.declared.statement.Statement.TheVariants as statements;
-ghost use Rattle.rv_line.specs.Statement.{keyword_form, form_of};
+ghost use Rattle.std.specs.Prelude.{◌≡◌, IfOk};
+ghost use Rattle.rv_line.specs.Statement.{form_of};
 ghost use Rattle.rv_line.specs.Line.{statement_in, begins_records, line_of, faulty_line, line_in};
 
-use crate::called::{
-    Keyword, cond_called, imm_op_called, keyword_called, load_called, op_called, store_called,
-};
-use crate::directives::{func_form, kind_form, node_form};
-use crate::forms::{
-    auipc_form, branch_form, imm_op_form, jal_form, jalr_form, load_form, lui_form, op_form,
-    store_form,
-};
+use crate::directives::directive_of;
+use crate::insn::insn_of;
+use crate::keyword::{Directive, directive_called, mnemonic_called, short_called};
 use crate::operand::cut_at;
-use crate::register::Register;
-use crate::short::{
-    bare_form, j_form, jr_form, la_form, li_form, mv_form, name_form, word_form, zero_form,
-};
-use crate::statement::{Low, Statement};
+use crate::short::short_of;
+use crate::statement::Statement;
 use cfi_text::{name_of, split_word, statement, unblanked};
 use elf_read::Name;
-use rv_insn::ImmOp;
 use std::alloc::{AllocError, Global};
 
 /// A line of a source.
@@ -37,77 +25,19 @@ pub struct Line {
     pub records: bool,
 }
 
-// `addi x0,x0,0`.
-fn nop() -> Statement
-    ensures { result ≡ statements.OpImm Addi 0 0 (lows.Number (pos 0)) }
-{
-    Statement::OpImm {
-        op: ImmOp::Addi,
-        rd: Register::new(0),
-        rs1: Register::new(0),
-        imm: Low::Number(0),
-    }
-}
-
-// The statement of a keyword.
-fn keyword_form(
-    alloc: Global,
-    keyword: Keyword,
-    rest: &[u8],
-) -> Result<Option<Statement>, AllocError>
-    ensures { IfOk result (λ found. found ≡ keyword_form keyword rest.now) }
-{
-    match keyword {
-        Keyword::Lui => lui_form(alloc, rest),
-        Keyword::Auipc => auipc_form(alloc, rest),
-        Keyword::Jal => jal_form(alloc, rest),
-        Keyword::Jalr => jalr_form(alloc, rest),
-        Keyword::Fence => Ok(bare_form(Statement::Fence, rest)),
-        Keyword::Ecall => Ok(bare_form(Statement::Ecall, rest)),
-        Keyword::Ebreak => Ok(bare_form(Statement::Ebreak, rest)),
-        Keyword::Nop => Ok(bare_form(nop(), rest)),
-        Keyword::Mv => Ok(mv_form(rest)),
-        Keyword::Li => Ok(li_form(rest)),
-        Keyword::La => la_form(alloc, rest),
-        Keyword::J => j_form(alloc, rest),
-        Keyword::Jr => Ok(jr_form(rest)),
-        Keyword::Ret => Ok(bare_form(Statement::Ret, rest)),
-        Keyword::Call => Ok(name_form(alloc, rest)?.map(Statement::Call)),
-        Keyword::Tail => Ok(name_form(alloc, rest)?.map(Statement::Tail)),
-        Keyword::Text => Ok(bare_form(Statement::Text, rest)),
-        Keyword::Data => Ok(bare_form(Statement::Data, rest)),
-        Keyword::Globl => Ok(name_form(alloc, rest)?.map(Statement::Globl)),
-        Keyword::Word => word_form(alloc, rest),
-        Keyword::Zero => Ok(zero_form(rest)),
-        Keyword::Node => node_form(alloc, rest),
-        Keyword::Func => func_form(alloc, rest),
-        Keyword::EndFunc => Ok(bare_form(Statement::EndFunc, rest)),
-        Keyword::Kind => kind_form(alloc, rest),
-    }
-}
-
 // The statement of a word and what comes after it.
 #[tactic(auto, unfolding(crate::specs::Statement::form_of))]
 fn form_of(alloc: Global, word: &[u8], rest: &[u8]) -> Result<Option<Statement>, AllocError>
     ensures { IfOk result (λ found. found ≡ form_of word.now rest.now) }
 {
-    if let Some(op) = op_called(word) {
-        return Ok(op_form(op, rest));
+    if let Some(mnemonic) = mnemonic_called(word) {
+        return insn_of(alloc, mnemonic, rest);
     }
-    if let Some(op) = imm_op_called(word) {
-        return imm_op_form(alloc, op, rest);
+    if let Some(short) = short_called(word) {
+        return short_of(alloc, short, rest);
     }
-    if let Some(kind) = load_called(word) {
-        return load_form(alloc, kind, rest);
-    }
-    if let Some(kind) = store_called(word) {
-        return store_form(alloc, kind, rest);
-    }
-    if let Some(cond) = cond_called(word) {
-        return branch_form(alloc, cond, rest);
-    }
-    match keyword_called(word) {
-        Some(keyword) => keyword_form(alloc, keyword, rest),
+    match directive_called(word) {
+        Some(directive) => directive_of(alloc, directive, rest),
         None => Ok(None),
     }
 }
@@ -128,8 +58,8 @@ fn begins_records(word: &[u8]) -> bool
     ensures { result ≡ begins_records word.now }
 {
     matches!(
-        keyword_called(word),
-        Some(Keyword::Node | Keyword::Func | Keyword::Kind)
+        directive_called(word),
+        Some(Directive::Node | Directive::Func | Directive::Kind)
     )
 }
 

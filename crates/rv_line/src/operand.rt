@@ -1,13 +1,15 @@
-//! The operands of an instruction.
+//! The operands of a statement.
 
-ghost use Rattle.std.specs.Prelude.{◌≡◌, ◌<◌, length, position, Some, None, MatchOption, IfOk, IfSome};
-ghost use Rattle.rv_line.specs.Operand.{word_in, is_byte, cut, two_in, three_in, low_by, low_reference_in, high_by, high_reference_in, closed_in, low_in, high_in, base_in, number_place_in, reference_place_in, place_in, target_in, datum_in};
+ghost use Rattle.std.specs.Prelude.{◌≡◌, ◌<◌, length, position, Some, None, [], ◌∷◌, MatchOption, IfOk, IfSome, option_and_then};
+ghost use Rattle.cfi_text.specs.Words.{words_in};
+ghost use Rattle.cfi_text.specs.Names.{name_in};
+ghost use Rattle.rv_line.specs.Number.{integer_in};
+ghost use Rattle.rv_line.specs.Operand.{word_in, is_byte, cut, operands_in, no_operands, one, two, three};
+ghost use Rattle.rv_line.specs.Register.{register_in};
 
 use crate::number::integer_of;
 use crate::register::{Register, register_of};
-use crate::statement::{Datum, High, Low, Target};
-use crate::table::is_named;
-use cfi_text::{name_of, next_word, read_small_dec};
+use cfi_text::{name_of, next_word};
 use elf_read::Name;
 use std::alloc::{AllocError, Global};
 
@@ -45,222 +47,113 @@ fn place_of(text: &[u8], byte: u8) -> Option<usize>
     text.iter().position(|other| *other == byte)
 }
 
-/// Two operands.
-#[tactic(auto, unfolding(crate::specs::Operand::two_in))]
-pub fn two_of(text: &[u8]) -> Option<(&[u8], &[u8])>
-    ensures { MatchOption result (two_in text.now ≡ None)
-        (λ words. two_in text.now ≡ Some (words.0.now, words.1.now)) }
+// What stands before the first comma, and what after it. `None` where there is none.
+fn at_comma(text: &[u8]) -> Option<(&[u8], &[u8])>
+    ensures { MatchOption result (operands_in text.now ≡ words_in text.now ∷ [])
+        (λ parts. operands_in text.now ≡ words_in parts.0.now ∷ operands_in parts.1.now) }
 {
-    let Some((first, second)) = cut_at(text, b',') else {
-        return None;
+    cut_at(text, b',')
+}
+
+/// Whether a text has no operand.
+pub fn has_none(text: &[u8]) -> bool
+    ensures { result ≡ no_operands (operands_in text.now) }
+{
+    match at_comma(text) {
+        Some(_) => false,
+        None => next_word(text).is_none(),
+    }
+}
+
+/// What stands where a statement has an operand.
+pub trait Operand: Sized + Drop {
+    ghost use Rattle.std.specs.Prelude.{ℕ, List, Option};
+
+    ghost read: { List ℕ → Option Self };
+
+    /// The operand that a word is. `None` where it is none.
+    fn of_word(alloc: Global, word: &[u8]) -> Result<Option<Self>, AllocError>
+        ensures { IfOk result (λ found. found ≡ read word.now) };
+}
+
+// The operand that is the only word of a text.
+fn alone_of<A: Operand>(alloc: Global, text: &[u8]) -> Result<Option<A>, AllocError>
+    ensures { IfOk result (λ found. found ≡ option_and_then A.read (word_in text.now)) }
+{
+    match word_of(text) {
+        Some(word) => A::of_word(alloc, word),
+        None => Ok(None),
+    }
+}
+
+/// One operand.
+pub fn one_of<A: Operand>(alloc: Global, text: &[u8]) -> Result<Option<A>, AllocError>
+    ensures { IfOk result (λ found. found ≡ one A.read (operands_in text.now)) }
+{
+    match at_comma(text) {
+        Some(_) => Ok(None),
+        None => alone_of(alloc, text),
+    }
+}
+
+/// Two operands.
+pub fn two_of<A: Operand, B: Operand>(
+    alloc: Global,
+    text: &[u8],
+) -> Result<Option<(A, B)>, AllocError>
+    ensures { IfOk result (λ found. found ≡ two A.read B.read (operands_in text.now)) }
+{
+    let Some((first, second)) = at_comma(text) else {
+        return Ok(None);
     };
-    let Some(first) = word_of(first) else {
-        return None;
+    let Some(first) = alone_of(alloc, first)? else {
+        return Ok(None);
     };
-    let Some(second) = word_of(second) else {
-        return None;
-    };
-    Some((first, second))
+    match one_of(alloc, second)? {
+        Some(second) => Ok(Some((first, second))),
+        None => Ok(None),
+    }
 }
 
 /// Three operands.
-#[tactic(auto, unfolding(crate::specs::Operand::three_in))]
-pub fn three_of(text: &[u8]) -> Option<(&[u8], &[u8], &[u8])>
-    ensures { MatchOption result (three_in text.now ≡ None)
-        (λ words. three_in text.now ≡ Some (words.0.now, words.1.now, words.2.now)) }
-{
-    let Some((first, others)) = cut_at(text, b',') else {
-        return None;
-    };
-    let Some(first) = word_of(first) else {
-        return None;
-    };
-    let Some((second, third)) = two_of(others) else {
-        return None;
-    };
-    Some((first, second, third))
-}
-
-fn low_by(kind: &[u8], name: Name) -> Option<Low>
-    ensures { result ≡ low_by kind.now name }
-{
-    if is_named(kind, "%lo") {
-        return Some(Low::Lo(name));
-    }
-    if is_named(kind, "%pcrel_lo") {
-        return Some(Low::PcrelLo(name));
-    }
-    None
-}
-
-// A reference of 12 bits, as far as its closing parenthesis.
-#[tactic(auto, unfolding(crate::specs::Operand::low_reference_in))]
-fn low_reference_of(alloc: Global, front: &[u8]) -> Result<Option<Low>, AllocError>
-    ensures { IfOk result (λ found. found ≡ low_reference_in front.now) }
-{
-    let Some((kind, name)) = cut_at(front, b'(') else {
-        return Ok(None);
-    };
-    let Some(name) = name_of(alloc, name)? else {
-        return Ok(None);
-    };
-    Ok(low_by(kind, name))
-}
-
-fn high_by(kind: &[u8], name: Name) -> Option<High>
-    ensures { result ≡ high_by kind.now name }
-{
-    if is_named(kind, "%hi") {
-        return Some(High::Hi(name));
-    }
-    if is_named(kind, "%pcrel_hi") {
-        return Some(High::PcrelHi(name));
-    }
-    None
-}
-
-// A reference of 20 bits, as far as its closing parenthesis.
-#[tactic(auto, unfolding(crate::specs::Operand::high_reference_in))]
-fn high_reference_of(alloc: Global, front: &[u8]) -> Result<Option<High>, AllocError>
-    ensures { IfOk result (λ found. found ≡ high_reference_in front.now) }
-{
-    let Some((kind, name)) = cut_at(front, b'(') else {
-        return Ok(None);
-    };
-    let Some(name) = name_of(alloc, name)? else {
-        return Ok(None);
-    };
-    Ok(high_by(kind, name))
-}
-
-// What stands before a closing parenthesis that ends the word.
-#[tactic(auto, unfolding(crate::specs::Operand::closed_in))]
-fn closed_of(word: &[u8]) -> Option<&[u8]>
-    ensures { MatchOption result (closed_in word.now ≡ None)
-        (λ front. closed_in word.now ≡ Some front.now) }
-{
-    let Some((front, back)) = cut_at(word, b')') else {
-        return None;
-    };
-    match back {
-        [] => Some(front),
-        _ => None,
-    }
-}
-
-/// An immediate of an operation.
-#[tactic(auto, unfolding(crate::specs::Operand::low_in))]
-pub fn low_of(alloc: Global, word: &[u8]) -> Result<Option<Low>, AllocError>
-    ensures { IfOk result (λ found. found ≡ low_in word.now) }
-{
-    if let Some(number) = integer_of(word) {
-        return Ok(Some(Low::Number(number)));
-    }
-    match closed_of(word) {
-        Some(front) => low_reference_of(alloc, front),
-        None => Ok(None),
-    }
-}
-
-/// An upper immediate.
-#[tactic(auto, unfolding(crate::specs::Operand::high_in))]
-pub fn high_of(alloc: Global, word: &[u8]) -> Result<Option<High>, AllocError>
-    ensures { IfOk result (λ found. found ≡ high_in word.now) }
-{
-    if let Some(number) = integer_of(word) {
-        return Ok(Some(High::Number(number)));
-    }
-    match closed_of(word) {
-        Some(front) => high_reference_of(alloc, front),
-        None => Ok(None),
-    }
-}
-
-// The register between parentheses.
-#[tactic(auto, unfolding(crate::specs::Operand::base_in))]
-fn base_of(word: &[u8]) -> Option<Register>
-    ensures { result ≡ base_in word.now }
-{
-    let Some(inner) = closed_of(word) else {
-        return None;
-    };
-    let Some((front, register)) = cut_at(inner, b'(') else {
-        return None;
-    };
-    match front {
-        [] => register_of(register),
-        _ => None,
-    }
-}
-
-#[tactic(auto, unfolding(crate::specs::Operand::number_place_in))]
-fn number_place_of(front: &[u8]) -> Option<(Low, Register)>
-    ensures { result ≡ number_place_in front.now }
-{
-    let Some((number, base)) = cut_at(front, b'(') else {
-        return None;
-    };
-    let Some(number) = integer_of(number) else {
-        return None;
-    };
-    let Some(base) = register_of(base) else {
-        return None;
-    };
-    Some((Low::Number(number), base))
-}
-
-#[tactic(auto, unfolding(crate::specs::Operand::reference_place_in))]
-fn reference_place_of(
+pub fn three_of<A: Operand, B: Operand, C: Operand>(
     alloc: Global,
-    front: &[u8],
-    back: &[u8],
-) -> Result<Option<(Low, Register)>, AllocError>
-    ensures { IfOk result (λ found. found ≡ reference_place_in front.now back.now) }
+    text: &[u8],
+) -> Result<Option<(A, B, C)>, AllocError>
+    ensures { IfOk result (λ found. found ≡ three A.read B.read C.read (operands_in text.now)) }
 {
-    let Some(low) = low_reference_of(alloc, front)? else {
+    let Some((first, others)) = at_comma(text) else {
         return Ok(None);
     };
-    match base_of(back) {
-        Some(base) => Ok(Some((low, base))),
+    let Some(first) = alone_of(alloc, first)? else {
+        return Ok(None);
+    };
+    match two_of(alloc, others)? {
+        Some((second, third)) => Ok(Some((first, second, third))),
         None => Ok(None),
     }
 }
 
-/// The place of an access or a jump: an immediate and a register in parentheses.
-#[tactic(auto, unfolding(crate::specs::Operand::place_in))]
-pub fn place_of_access(alloc: Global, word: &[u8]) -> Result<Option<(Low, Register)>, AllocError>
-    ensures { IfOk result (λ found. found ≡ place_in word.now) }
-{
-    let Some((front, back)) = cut_at(word, b')') else {
-        return Ok(None);
-    };
-    match back {
-        [] => Ok(number_place_of(front)),
-        _ => reference_place_of(alloc, front, back),
+impl Operand for Register {
+    ghost read = { register_in };
+
+    fn of_word(_alloc: Global, word: &[u8]) -> Result<Option<Register>, AllocError> {
+        Ok(register_of(word))
     }
 }
 
-/// Where a jump or a branch leads.
-#[tactic(auto, unfolding(crate::specs::Operand::target_in))]
-pub fn target_of(alloc: Global, word: &[u8]) -> Result<Option<Target>, AllocError>
-    ensures { IfOk result (λ found. found ≡ target_in word.now) }
-{
-    if word.starts_with(b".+".as_slice()) {
-        return Ok(read_small_dec(&word[2..]).map(|n| Target::Offset(i64::from(n))));
+impl Operand for i64 {
+    ghost read = { integer_in };
+
+    fn of_word(_alloc: Global, word: &[u8]) -> Result<Option<i64>, AllocError> {
+        Ok(integer_of(word))
     }
-    if word.starts_with(b".-".as_slice()) {
-        return Ok(read_small_dec(&word[2..]).map(|n| Target::Offset(-i64::from(n))));
-    }
-    Ok(name_of(alloc, word)?.map(Target::Name))
 }
 
-/// A number or a name.
-#[tactic(auto, unfolding(crate::specs::Operand::datum_in))]
-pub fn datum_of(alloc: Global, word: &[u8]) -> Result<Option<Datum>, AllocError>
-    ensures { IfOk result (λ found. found ≡ datum_in word.now) }
-{
-    if let Some(number) = integer_of(word) {
-        return Ok(Some(Datum::Number(number)));
+impl Operand for Name {
+    ghost read = { name_in };
+
+    fn of_word(alloc: Global, word: &[u8]) -> Result<Option<Name>, AllocError> {
+        name_of(alloc, word)
     }
-    Ok(name_of(alloc, word)?.map(Datum::Name))
 }

@@ -3,7 +3,7 @@
 ghost use Rattle.std.specs.Prelude.{◌≡◌, ◌<◌};
 ghost use Rattle.rv_line.specs.Register.{named_register, numbered_register, lettered_register, register_in};
 
-use crate::table::called_in;
+use crate::table::found_in;
 use cfi_text::read_dec;
 use std::marker::Model;
 
@@ -44,7 +44,7 @@ impl Register {
     }
 }
 
-#[tactic(auto, unfolding(crate::specs::Register::named_register))]
+#[tactic(auto, unfolding(crate::specs::Register::named_register, crate::specs::Table::first_named))]
 fn named_register(word: &[u8]) -> Option<Register>
     ensures { result ≡ named_register word.now }
 {
@@ -56,7 +56,7 @@ fn named_register(word: &[u8]) -> Option<Register>
         ("tp", Register::new(4)),
         ("fp", Register::new(8)),
     ];
-    called_in(word, &rows)
+    found_in(word, &rows)
 }
 
 fn numbered_register(letter: u8, number: u64) -> Option<Register>

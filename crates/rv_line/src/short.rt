@@ -1,81 +1,67 @@
-//! The short forms, and the statements of one word.
+//! The short forms.
 
-ghost use Rattle.std.specs.Prelude.{◌≡◌, IfOk};
-ghost use Rattle.rv_line.specs.Statement.{bare_form, mv_form, li_form, la_form, j_form, jr_form, name_form, word_form, zero_form};
+ghost use Rattle.std.specs.Prelude.{◌≡◌, IfOk, pos};
+ghost use Rattle.rv_insn.specs.declared.insn.ImmOp.TheVariants.{Addi};
+ghost use Rattle.rv_line.specs.declared.keyword.Short.TheVariants as shorts;
+ghost use Rattle.rv_line.specs.declared.statement.Low.TheVariants as lows;
+ghost use Rattle.rv_line.specs.declared.statement.Statement.TheVariants as statements;
+ghost use Rattle.rv_line.specs.Operand.{operands_in};
+ghost use Rattle.rv_line.specs.Statement.{short_in};
 
-use crate::number::integer_of;
-use crate::operand::{datum_of, target_of, two_of, word_of};
-use crate::register::{Register, register_of};
+use crate::insn::alone;
+use crate::keyword::Short;
+use crate::operand::{has_none, one_of, two_of};
+use crate::register::Register;
 use crate::statement::{Low, Statement};
-use cfi_text::{name_of, next_word};
-use elf_read::Name;
 use rv_insn::ImmOp;
 use std::alloc::{AllocError, Global};
 
-/// A statement without operands.
-pub fn bare_form(statement: Statement, rest: &[u8]) -> Option<Statement>
-    ensures { result ≡ bare_form statement rest.now }
+// `addi rd,rs1,0`.
+fn copy(rd: Register, rs1: Register) -> Statement
+    ensures { result ≡ statements.OpImm Addi rd rs1 (lows.Number (pos 0)) }
 {
-    next_word(rest).is_none().then_some(statement)
-}
-
-/// `mv rd,rs`.
-#[tactic(auto, unfolding(crate::specs::Statement::mv_form))]
-pub fn mv_form(rest: &[u8]) -> Option<Statement>
-    ensures { result ≡ mv_form rest.now }
-{
-    let Some((rd, rs1)) = two_of(rest) else {
-        return None;
-    };
-    let rd = register_of(rd)?;
-    let rs1 = register_of(rs1)?;
-    Some(Statement::OpImm {
+    Statement::OpImm {
         op: ImmOp::Addi,
         rd,
         rs1,
         imm: Low::Number(0),
-    })
+    }
 }
 
-/// `li rd,N`.
-#[tactic(auto, unfolding(crate::specs::Statement::li_form))]
-pub fn li_form(rest: &[u8]) -> Option<Statement>
-    ensures { result ≡ li_form rest.now }
+// `jalr x0,0(rs1)`.
+fn jump_by(rs1: Register) -> Statement
+    ensures { result ≡ statements.Jalr 0 rs1 (lows.Number (pos 0)) }
 {
-    let Some((rd, number)) = two_of(rest) else {
-        return None;
-    };
-    let rd = register_of(rd)?;
-    let number = integer_of(number)?;
-    Some(Statement::Li { rd, number })
+    Statement::Jalr {
+        rd: Register::new(0),
+        rs1,
+        imm: Low::Number(0),
+    }
 }
 
-/// `la rd,NAME`.
-#[tactic(auto, unfolding(crate::specs::Statement::la_form))]
-pub fn la_form(alloc: Global, rest: &[u8]) -> Result<Option<Statement>, AllocError>
-    ensures { IfOk result (λ found. found ≡ la_form rest.now) }
+// `nop` stands for `addi x0,x0,0`.
+fn nop(rest: &[u8]) -> Option<Statement>
+    ensures { result ≡ short_in shorts.Nop (operands_in rest.now) }
 {
-    let Some((rd, name)) = two_of(rest) else {
-        return Ok(None);
-    };
-    let Some(rd) = register_of(rd) else {
-        return Ok(None);
-    };
-    match name_of(alloc, name)? {
-        Some(name) => Ok(Some(Statement::La { rd, name })),
+    let zero = Register::new(0);
+    has_none(rest).then_some(copy(zero, zero))
+}
+
+// `mv rd,rs` stands for `addi rd,rs,0`.
+fn mv(alloc: Global, rest: &[u8]) -> Result<Option<Statement>, AllocError>
+    ensures { IfOk result (λ found. found ≡ short_in shorts.Mv (operands_in rest.now)) }
+{
+    match two_of(alloc, rest)? {
+        Some((rd, rs1)) => Ok(Some(copy(rd, rs1))),
         None => Ok(None),
     }
 }
 
-/// `j T`.
-#[tactic(auto, unfolding(crate::specs::Statement::j_form))]
-pub fn j_form(alloc: Global, rest: &[u8]) -> Result<Option<Statement>, AllocError>
-    ensures { IfOk result (λ found. found ≡ j_form rest.now) }
+// `j T` stands for `jal x0,T`.
+fn j(alloc: Global, rest: &[u8]) -> Result<Option<Statement>, AllocError>
+    ensures { IfOk result (λ found. found ≡ short_in shorts.J (operands_in rest.now)) }
 {
-    let Some(word) = word_of(rest) else {
-        return Ok(None);
-    };
-    match target_of(alloc, word)? {
+    match one_of(alloc, rest)? {
         Some(target) => Ok(Some(Statement::Jal {
             rd: Register::new(0),
             target,
@@ -84,55 +70,19 @@ pub fn j_form(alloc: Global, rest: &[u8]) -> Result<Option<Statement>, AllocErro
     }
 }
 
-/// `jr rs`.
-#[tactic(auto, unfolding(crate::specs::Statement::jr_form))]
-pub fn jr_form(rest: &[u8]) -> Option<Statement>
-    ensures { result ≡ jr_form rest.now }
+/// The statement of a short form and its operands.
+pub fn short_of(alloc: Global, short: Short, rest: &[u8]) -> Result<Option<Statement>, AllocError>
+    ensures { IfOk result (λ found. found ≡ short_in short (operands_in rest.now)) }
 {
-    let Some(word) = word_of(rest) else {
-        return None;
-    };
-    let rs1 = register_of(word)?;
-    Some(Statement::Jalr {
-        rd: Register::new(0),
-        rs1,
-        imm: Low::Number(0),
-    })
-}
-
-/// A name alone.
-#[tactic(auto, unfolding(crate::specs::Statement::name_form))]
-pub fn name_form(alloc: Global, rest: &[u8]) -> Result<Option<Name>, AllocError>
-    ensures { IfOk result (λ found. found ≡ name_form rest.now) }
-{
-    match word_of(rest) {
-        Some(word) => name_of(alloc, word),
-        None => Ok(None),
+    match short {
+        Short::Nop => Ok(nop(rest)),
+        Short::Mv => mv(alloc, rest),
+        Short::J => j(alloc, rest),
+        Short::Jr => Ok(one_of(alloc, rest)?.map(jump_by)),
+        Short::Li => Ok(two_of(alloc, rest)?.map(|(rd, number)| Statement::Li { rd, number })),
+        Short::La => Ok(two_of(alloc, rest)?.map(|(rd, name)| Statement::La { rd, name })),
+        Short::Ret => Ok(alone(Statement::Ret, rest)),
+        Short::Call => Ok(one_of(alloc, rest)?.map(Statement::Call)),
+        Short::Tail => Ok(one_of(alloc, rest)?.map(Statement::Tail)),
     }
-}
-
-/// `.word N` and `.word NAME`.
-#[tactic(auto, unfolding(crate::specs::Statement::word_form))]
-pub fn word_form(alloc: Global, rest: &[u8]) -> Result<Option<Statement>, AllocError>
-    ensures { IfOk result (λ found. found ≡ word_form rest.now) }
-{
-    let Some(word) = word_of(rest) else {
-        return Ok(None);
-    };
-    match datum_of(alloc, word)? {
-        Some(datum) => Ok(Some(Statement::Word(datum))),
-        None => Ok(None),
-    }
-}
-
-/// `.zero N`.
-#[tactic(auto, unfolding(crate::specs::Statement::zero_form))]
-pub fn zero_form(rest: &[u8]) -> Option<Statement>
-    ensures { result ≡ zero_form rest.now }
-{
-    let Some(word) = word_of(rest) else {
-        return None;
-    };
-    let number = integer_of(word)?;
-    Some(Statement::Zero(number))
 }
