@@ -1,5 +1,5 @@
 -- A statement has few names: at most two, or the words of a switch.
-use Rattle.std.proofs.Common.{◌≡◌, ℕ, suc, ◌+◌, ◌≤◌, pos, Bool, true, false, cond, List, [], ◌∷◌, length, option_map, if◌then◌else◌, Option, Some, None, refl, ap, arith}
+use Rattle.std.proofs.Common.{◌≡◌, ℕ, suc, ◌+◌, ◌≤◌, Bool, true, false, cond, List, [], ◌∷◌, ◌++◌, length, option_map, if◌then◌else◌, Option, Some, None, refl, ap, arith}
 use Rattle.std.specs.Prelude.{option_and_then, codes}
 use Rattle.std.specs.Str.{bytes_eq}
 use Rattle.std.specs.List.{slice_split, onto_first}
@@ -7,24 +7,26 @@ use Rattle.std.proofs.lemmas.List.Sums.{length-filter, count_by-le-length}
 use Rattle.cfi_values.specs.Some.{◌>>=◌}
 use Rattle.cfi_text.specs.Names.{name_in}
 use Rattle.cfi_text.specs.Words.{is_blank, has_byte, words_in}
-use Rattle.rv_insn.specs.declared.insn.Cond.{Cond}
-use Rattle.rv_insn.specs.declared.insn.LoadKind.{LoadKind}
-use Rattle.rv_insn.specs.declared.insn.StoreKind.{StoreKind}
 use Rattle.rv_insn.specs.declared.insn.ImmOp.{ImmOp}
 use Rattle.rv_insn.specs.declared.insn.ImmOp.TheVariants.{Addi}
-use Rattle.rv_insn.specs.declared.insn.Op.{Op}
-use Rattle.rv_line.specs.declared.called.Keyword.{Keyword}
-use Rattle.rv_line.specs.declared.called.Keyword.TheVariants as keywords
 use Rattle.rv_line.specs.declared.statement.High.{High}
 use Rattle.rv_line.specs.declared.statement.High.TheVariants as highs
-use Rattle.rv_line.specs.declared.statement.Low.TheVariants as lows
 use Rattle.rv_line.specs.declared.statement.Statement.{Statement}
 use Rattle.rv_line.specs.declared.statement.Statement.TheVariants as statements
-use Rattle.rv_line.specs.Called.{op_called, imm_op_called, load_called, store_called, cond_called, keyword_called, node_kind_called}
+use Rattle.rv_line.specs.Immediate.{low_in, high_in, place_in}
+use Rattle.rv_line.specs.Keyword.{called, mnemonic_text, mnemonics, short_text, shorts, directive_text, directives, node_kind_text, node_kinds}
 use Rattle.rv_line.specs.Number.{integer_in}
-use Rattle.rv_line.specs.Operand.{word_in, two_in, three_in, low_in, target_in, datum_in}
+use Rattle.rv_line.specs.Operand.{is_empty, operands_in, operand, no_operands, one, two, three}
 use Rattle.rv_line.specs.Register.{register_in}
-use Rattle.rv_line.specs.Statement.{op_form, takes, imm_op_form, load_form, store_form, branch_form, register_and_place, register_and_high, lui_by, lui_form, auipc_form, jal_form, alone, mv_form, li_form, la_form, j_form, jr_form, name_form, word_form, zero_form, onto, all_in, names_in, integers_in, has_count, node_words, func_by, func_words, switch_of, only_integer, kind_by, kind_words, keyword_form, form_or, form_of}
+use Rattle.rv_line.specs.Statement.{takes, imm_op_by, lui_by, alone, insn_in, short_in, directive_in, said_or, form_of, onto, all_in, names_in, integers_in, has_count, node_words, func_by, func_words, switch_of, only_integer, kind_by, kind_words}
+use Rattle.rv_line.specs.Target.{target_in, datum_in}
+use Rattle.rv_line.specs.declared.keyword.Mnemonic.{Mnemonic}
+use Rattle.rv_line.specs.declared.keyword.Mnemonic.TheVariants as mnemonic
+use Rattle.rv_line.specs.declared.keyword.Short.{Short}
+use Rattle.rv_line.specs.declared.keyword.Short.TheVariants as short
+use Rattle.rv_line.specs.declared.keyword.Directive.{Directive}
+use Rattle.rv_line.specs.declared.keyword.Directive.TheVariants as directive
+use Rattle.rv_line.specs.declared.statement.Low.{Low}
 use Rattle.rv_asm.specs.inner.Count.{most_of}
 
 -- what a form gives has at most so many
@@ -60,96 +62,56 @@ if-few : (b : Bool) (one other : Option Statement) (n : ℕ) → HasFew one n �
 if-few true one other n first second = first
 if-few false one other n first second = second
 
--- ---- the forms
+-- ---- instructions and short forms
 
-op-few : (op : Op) (rest : List ℕ) → HasFew (op_form op rest) 2
-unfolding op_form
-op-few op rest =
-    bind-few (three_in rest) _ 2 (λ words. bind-few (register_in words.0) _ 2 (λ rd. bind-few (register_in words.1) _ 2 (λ rs1. bind-few (register_in words.2) _ 2 (λ rs2.
-    some-few (statements.Op op rd rs1 rs2) 2 (omega arith)))))
+imm_op-few : (op : ImmOp) (rd rs1 : ℕ) (imm : Low) → HasFew (imm_op_by op rd rs1 imm) 2
+imm_op-few op rd rs1 imm =
+    if-few (takes op imm) _ _ 2 (some-few (statements.OpImm op rd rs1 imm) 2 (omega arith)) (none-few 2)
 
-imm_op-few : (op : ImmOp) (rest : List ℕ) → HasFew (imm_op_form op rest) 2
-unfolding imm_op_form
-imm_op-few op rest =
-    bind-few (three_in rest) _ 2 (λ words. bind-few (register_in words.0) _ 2 (λ rd. bind-few (register_in words.1) _ 2 (λ rs1. bind-few (low_in words.2) _ 2 (λ imm.
-    if-few (takes op imm) _ _ 2 (some-few (statements.OpImm op rd rs1 imm) 2 (omega arith)) (none-few 2)))))
+lui-few : (rd : ℕ) (imm : High) → HasFew (lui_by rd imm) 2
+lui-few rd (highs.Number number) = some-few (statements.Lui rd (highs.Number number)) 2 (omega arith)
+lui-few rd (highs.Hi name) = some-few (statements.Lui rd (highs.Hi name)) 2 (omega arith)
+lui-few rd (highs.PcrelHi name) = none-few 2
 
-load-few : (kind : LoadKind) (rest : List ℕ) → HasFew (load_form kind rest) 2
-load-few kind rest = map-few _ (register_and_place rest) 2 (λ p. omega arith)
+alone-few : (s : Statement) (operands : List (List (List ℕ))) → most_of s ≤ 2 → HasFew (alone s operands) 2
+alone-few s operands few = if-few (no_operands operands) _ _ 2 (some-few s 2 few) (none-few 2)
 
-store-few : (kind : StoreKind) (rest : List ℕ) → HasFew (store_form kind rest) 2
-store-few kind rest = map-few _ (register_and_place rest) 2 (λ p. omega arith)
+insn-few : (insn : Mnemonic) (operands : List (List (List ℕ))) → HasFew (insn_in insn operands) 2
+insn-few (mnemonic.Op op) operands = map-few _ (three register_in register_in register_in operands) 2 (λ p. omega arith)
+insn-few (mnemonic.OpImm op) operands =
+    then-few _ (three register_in register_in low_in operands) 2 (λ p. imm_op-few op p.0 p.1 p.2)
+insn-few (mnemonic.Load kind) operands = map-few _ (two register_in place_in operands) 2 (λ p. omega arith)
+insn-few (mnemonic.Store kind) operands = map-few _ (two register_in place_in operands) 2 (λ p. omega arith)
+insn-few (mnemonic.Branch cond) operands =
+    map-few _ (three register_in register_in target_in operands) 2 (λ p. omega arith)
+insn-few mnemonic.Lui operands = then-few _ (two register_in high_in operands) 2 (λ p. lui-few p.0 p.1)
+insn-few mnemonic.Auipc operands = map-few _ (two register_in high_in operands) 2 (λ p. omega arith)
+insn-few mnemonic.Jal operands = map-few _ (two register_in target_in operands) 2 (λ p. omega arith)
+insn-few mnemonic.Jalr operands = map-few _ (two register_in place_in operands) 2 (λ p. omega arith)
+insn-few mnemonic.Fence operands = alone-few statements.Fence operands (omega arith)
+insn-few mnemonic.Ecall operands = alone-few statements.Ecall operands (omega arith)
+insn-few mnemonic.Ebreak operands = alone-few statements.Ebreak operands (omega arith)
 
-branch-few : (condition : Cond) (rest : List ℕ) → HasFew (branch_form condition rest) 2
-unfolding branch_form
-branch-few condition rest =
-    bind-few (three_in rest) _ 2 (λ words. bind-few (register_in words.0) _ 2 (λ rs1. bind-few (register_in words.1) _ 2 (λ rs2. bind-few (target_in words.2) _ 2 (λ target.
-    some-few (statements.Branch condition rs1 rs2 target) 2 (omega arith)))))
+short-few : (form : Short) (operands : List (List (List ℕ))) → HasFew (short_in form operands) 2
+short-few short.Nop operands =
+    if-few (no_operands operands) _ _ 2
+    (insn-few (mnemonic.OpImm Addi) (operand (codes "x0") ∷ operand (codes "x0") ∷ operand (codes "0") ∷ []))
+    (none-few 2)
+short-few short.Mv operands = insn-few (mnemonic.OpImm Addi) (operands ++ operand (codes "0") ∷ [])
+short-few short.J operands = insn-few mnemonic.Jal (operand (codes "x0") ∷ operands)
+short-few short.Jr operands = map-few _ (one register_in operands) 2 (λ rs. omega arith)
+short-few short.Li operands = map-few _ (two register_in integer_in operands) 2 (λ p. omega arith)
+short-few short.La operands = map-few _ (two register_in name_in operands) 2 (λ p. omega arith)
+short-few short.Ret operands = alone-few statements.Ret operands (omega arith)
+short-few short.Call operands = map-few statements.Call (one name_in operands) 2 (λ name. omega arith)
+short-few short.Tail operands = map-few statements.Tail (one name_in operands) 2 (λ name. omega arith)
 
-lui_by-few : (rd : ℕ) (imm : High) → HasFew (lui_by rd imm) 2
-lui_by-few rd (highs.Number number) = some-few (statements.Lui rd (highs.Number number)) 2 (omega arith)
-lui_by-few rd (highs.Hi name) = some-few (statements.Lui rd (highs.Hi name)) 2 (omega arith)
-lui_by-few rd (highs.PcrelHi name) = none-few 2
-
-lui-few : (rest : List ℕ) → HasFew (lui_form rest) 2
-lui-few rest = then-few _ (register_and_high rest) 2 (λ p. lui_by-few p.0 p.1)
-
-auipc-few : (rest : List ℕ) → HasFew (auipc_form rest) 2
-auipc-few rest = map-few _ (register_and_high rest) 2 (λ p. omega arith)
-
-jal-few : (rest : List ℕ) → HasFew (jal_form rest) 2
-unfolding jal_form
-jal-few rest =
-    bind-few (two_in rest) _ 2 (λ words. bind-few (register_in words.0) _ 2 (λ rd. bind-few (target_in words.1) _ 2 (λ target.
-    some-few (statements.Jal rd target) 2 (omega arith))))
-
-alone-few : (s : Statement) (words : List (List ℕ)) → most_of s ≤ 2 → HasFew (alone s words) 2
-alone-few s [] few = some-few s 2 few
-alone-few s (word ∷ words) few = none-few 2
-
-mv-few : (rest : List ℕ) → HasFew (mv_form rest) 2
-unfolding mv_form
-mv-few rest =
-    bind-few (two_in rest) _ 2 (λ words. bind-few (register_in words.0) _ 2 (λ rd. bind-few (register_in words.1) _ 2 (λ rs1.
-    some-few (statements.OpImm Addi rd rs1 (lows.Number _)) 2 (omega arith))))
-
-li-few : (rest : List ℕ) → HasFew (li_form rest) 2
-unfolding li_form
-li-few rest =
-    bind-few (two_in rest) _ 2 (λ words. bind-few (register_in words.0) _ 2 (λ rd. bind-few (integer_in words.1) _ 2 (λ number.
-    some-few (statements.Li rd number) 2 (omega arith))))
-
-la-few : (rest : List ℕ) → HasFew (la_form rest) 2
-unfolding la_form
-la-few rest =
-    bind-few (two_in rest) _ 2 (λ words. bind-few (register_in words.0) _ 2 (λ rd. bind-few (name_in words.1) _ 2 (λ name.
-    some-few (statements.La rd name) 2 (omega arith))))
-
-j-few : (rest : List ℕ) → HasFew (j_form rest) 2
-unfolding j_form
-j-few rest =
-    bind-few (word_in rest) _ 2 (λ word. bind-few (target_in word) _ 2 (λ target. some-few (statements.Jal 0 target) 2 (omega arith)))
-
-jr-few : (rest : List ℕ) → HasFew (jr_form rest) 2
-unfolding jr_form
-jr-few rest =
-    bind-few (word_in rest) _ 2 (λ word. bind-few (register_in word) _ 2 (λ rs1.
-    some-few (statements.Jalr 0 rs1 (lows.Number _)) 2 (omega arith)))
-
-word-few : (rest : List ℕ) → HasFew (word_form rest) 2
-unfolding word_form
-word-few rest =
-    bind-few (word_in rest) _ 2 (λ word. bind-few (datum_in word) _ 2 (λ datum. some-few (statements.Word datum) 2 (omega arith)))
-
-zero-few : (rest : List ℕ) → HasFew (zero_form rest) 2
-unfolding zero_form
-zero-few rest =
-    bind-few (word_in rest) _ 2 (λ word. bind-few (integer_in word) _ 2 (λ number. some-few (statements.Zero number) 2 (omega arith)))
+-- ---- records
 
 node-few : (words : List (List ℕ)) → HasFew (node_words words) 2
 node-few [] = none-few 2
 node-few (word ∷ words) =
-    bind-few (node_kind_called word) _ 2 (λ kind. bind-few (integers_in words) _ 2 (λ fields.
+    bind-few (called node_kind_text node_kinds word) _ 2 (λ kind. bind-few (integers_in words) _ 2 (λ fields.
     if-few (has_count kind (length fields)) _ _ 2 (some-few (statements.Node kind fields) 2 (omega arith))
     (none-few 2)))
 
@@ -205,7 +167,7 @@ kind_by-few kind words n few =
     if-few (bytes_eq kind (codes "call")) _ _ (2 + n) (map-few statements.KindCall (only_integer words) (2 + n) (λ x. omega arith))
     (if-few (bytes_eq kind (codes "tail")) _ _ (2 + n) (map-few statements.KindTail (only_integer words) (2 + n) (λ x. omega arith))
     (if-few (bytes_eq kind (codes "return")) _ _ (2 + n)
-    (more-few (alone statements.KindReturn words) n (alone-few statements.KindReturn words (omega arith)))
+    (if-few (is_empty words) _ _ (2 + n) (some-few statements.KindReturn (2 + n) (omega arith)) (none-few (2 + n)))
     (if-few (bytes_eq kind (codes "switch")) _ _ (2 + n)
     (switch-few words (names_in words) (λ names e. all-length name_in words names e) (2 + n) (omega (arith, few)))
     (none-few (2 + n)))))
@@ -234,47 +196,28 @@ words-few text =
 
 -- ---- all forms
 
-keyword-few : (keyword : Keyword) (rest : List ℕ) → HasFew (keyword_form keyword rest) (2 + length rest)
-keyword-few keywords.Lui rest = more-few _ (length rest) (lui-few rest)
-keyword-few keywords.Auipc rest = more-few _ (length rest) (auipc-few rest)
-keyword-few keywords.Jal rest = more-few _ (length rest) (jal-few rest)
-keyword-few keywords.Jalr rest = map-few _ (register_and_place rest) (2 + length rest) (λ p. omega arith)
-keyword-few keywords.Fence rest = more-few _ (length rest) (alone-few statements.Fence _ (omega arith))
-keyword-few keywords.Ecall rest = more-few _ (length rest) (alone-few statements.Ecall _ (omega arith))
-keyword-few keywords.Ebreak rest = more-few _ (length rest) (alone-few statements.Ebreak _ (omega arith))
-keyword-few keywords.Nop rest =
-    more-few _ (length rest) (alone-few (statements.OpImm Addi 0 0 (lows.Number (pos 0))) _ (omega arith))
-keyword-few keywords.Mv rest = more-few _ (length rest) (mv-few rest)
-keyword-few keywords.Li rest = more-few _ (length rest) (li-few rest)
-keyword-few keywords.La rest = more-few _ (length rest) (la-few rest)
-keyword-few keywords.J rest = more-few _ (length rest) (j-few rest)
-keyword-few keywords.Jr rest = more-few _ (length rest) (jr-few rest)
-keyword-few keywords.Ret rest = more-few _ (length rest) (alone-few statements.Ret _ (omega arith))
-keyword-few keywords.Call rest = map-few statements.Call (name_form rest) (2 + length rest) (λ n. omega arith)
-keyword-few keywords.Tail rest = map-few statements.Tail (name_form rest) (2 + length rest) (λ n. omega arith)
-keyword-few keywords.Text rest = more-few _ (length rest) (alone-few statements.Text _ (omega arith))
-keyword-few keywords.Data rest = more-few _ (length rest) (alone-few statements.Data _ (omega arith))
-keyword-few keywords.Globl rest = map-few statements.Globl (name_form rest) (2 + length rest) (λ n. omega arith)
-keyword-few keywords.Word rest = more-few _ (length rest) (word-few rest)
-keyword-few keywords.Zero rest = more-few _ (length rest) (zero-few rest)
-keyword-few keywords.Node rest = more-few _ (length rest) (node-few (words_in rest))
-keyword-few keywords.Func rest = more-few _ (length rest) (func-few (words_in rest))
-keyword-few keywords.EndFunc rest = more-few _ (length rest) (alone-few statements.EndFunc _ (omega arith))
-keyword-few keywords.Kind rest = kind-few (words_in rest) (length rest) (words-few rest)
+directive-few : (what : Directive) (rest : List ℕ) → HasFew (directive_in what rest) (2 + length rest)
+directive-few directive.Text rest = more-few _ (length rest) (alone-few statements.Text (operands_in rest) (omega arith))
+directive-few directive.Data rest = more-few _ (length rest) (alone-few statements.Data (operands_in rest) (omega arith))
+directive-few directive.Globl rest = map-few statements.Globl (one name_in (operands_in rest)) _ (λ name. omega arith)
+directive-few directive.Word rest = map-few statements.Word (one datum_in (operands_in rest)) _ (λ datum. omega arith)
+directive-few directive.Zero rest = map-few statements.Zero (one integer_in (operands_in rest)) _ (λ number. omega arith)
+directive-few directive.Node rest = more-few _ (length rest) (node-few (words_in rest))
+directive-few directive.Func rest = more-few _ (length rest) (func-few (words_in rest))
+directive-few directive.EndFunc rest =
+    more-few _ (length rest) (alone-few statements.EndFunc (operands_in rest) (omega arith))
+directive-few directive.Kind rest = kind-few (words_in rest) (length rest) (words-few rest)
 
-or-few : {X : Type 0} (o : Option X) (form : X → (rest : List ℕ) → Option Statement) (rest : List ℕ)
-    (other : Option Statement) (n : ℕ) → ((x : X) → HasFew (form x rest) n) → HasFew other n
-    → HasFew (form_or o form rest other) n
-or-few None form rest other n few next = next
-or-few (Some x) form rest other n few next = few x
+or-few : {X : Type 0} (o : Option X) (says : X → Option Statement) (other : Option Statement) (n : ℕ)
+    → ((x : X) → HasFew (says x) n) → HasFew other n → HasFew (said_or o says other) n
+or-few None says other n few next = next
+or-few (Some x) says other n few next = few x
 
 pub form-few : (word rest : List ℕ) → HasFew (form_of word rest) (2 + length rest)
 unfolding form_of
 form-few word rest =
     let n : ℕ = 2 + length rest in
-    or-few (op_called word) op_form rest _ n (λ op. more-few _ (length rest) (op-few op rest))
-    (or-few (imm_op_called word) imm_op_form rest _ n (λ op. more-few _ (length rest) (imm_op-few op rest))
-    (or-few (load_called word) load_form rest _ n (λ k. more-few _ (length rest) (load-few k rest))
-    (or-few (store_called word) store_form rest _ n (λ k. more-few _ (length rest) (store-few k rest))
-    (or-few (cond_called word) branch_form rest _ n (λ k. more-few _ (length rest) (branch-few k rest))
-    (or-few (keyword_called word) keyword_form rest None n (λ k. keyword-few k rest) (none-few n))))))
+    let words = operands_in rest in
+    or-few (called mnemonic_text mnemonics word) _ _ n (λ insn. more-few _ (length rest) (insn-few insn words))
+    (or-few (called short_text shorts word) _ _ n (λ form. more-few _ (length rest) (short-few form words))
+    (or-few (called directive_text directives word) _ _ n (λ what. directive-few what rest) (none-few n)))
