@@ -32,7 +32,7 @@ operands-cut text front back is =
           ap (map words_in) (slice_split_first (is_byte 44) text 0 (ltb-true _ _ inside))
           ∙ ap (λ part. words_in part ∷ map words_in (slice_split (is_byte 44) (after_first (is_byte 44) text))) first
           ∙ ap (λ part. words_in front ∷ map words_in (slice_split (is_byte 44) part)) second
-      | inr none ↦ let never : None ≡ Some (front, back) = rw none at is in cc
+      | inr none ↦ let never : ◌≡◌ {A = Option (List ℕ × List ℕ)} None (Some (front, back)) = rw none at is in cc
     ]
 
 pub operands-whole : (text : List ℕ) → cut 44 text ≡ None → operands_in text ≡ words_in text ∷ []
@@ -40,7 +40,8 @@ unfolding cut operands_in
 operands-whole text is =
     elim (cases_Bool (nat_lt (position_or_len (is_byte 44) text) (length text))) [
       | inl inside ↦
-          let never : Some (before_first (is_byte 44) text, after_first (is_byte 44) text) ≡ None =
+          let never : ◌≡◌ {A = Option (List ℕ × List ℕ)}
+          (Some (before_first (is_byte 44) text, after_first (is_byte 44) text)) None =
           rw inside at is in
           cc
       | inr none ↦ ap (map words_in) (split-whole (is_byte 44) text (ltb-false _ _ none))
