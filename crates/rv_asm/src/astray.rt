@@ -1,7 +1,7 @@
 //! Statements that may not stand where they do.
 
 ghost use Rattle.std.specs.Prelude.{◌≡◌, is_some};
-ghost use Rattle.rv_asm.specs.Fault.{is_name, is_data, is_bare};
+ghost use Rattle.rv_asm.specs.Fault.{is_bare};
 ghost use Rattle.rv_asm.specs.inner.Fault.{is_astray};
 
 use crate::check::jump_follows;
@@ -12,26 +12,6 @@ use crate::row::Row;
 use crate::spot::Spot;
 use elf_read::Area;
 use rv_line::{Datum, Statement};
-
-// Whether it is a name.
-fn is_name(datum: &Datum) -> bool
-    ensures { result ≡ is_name datum.now }
-{
-    match datum {
-        Datum::Number(_) => false,
-        Datum::Name(_) => true,
-    }
-}
-
-// Whether the area is data.
-fn is_data(area: Area) -> bool
-    ensures { result ≡ is_data area }
-{
-    match area {
-        Area::Text => false,
-        Area::Data => true,
-    }
-}
 
 impl Draft {
     /// Whether a function is open.
@@ -56,10 +36,10 @@ impl Draft {
         ensures { result ≡ is_astray file.now self.now rest.now spot statement.now }
     {
         let kinds = file.kinds.as_slice();
-        let in_data = is_data(spot.area);
+        let in_data = matches!(spot.area, Area::Data);
         match statement {
             Statement::Blank | Statement::Text | Statement::Data | Statement::Globl(_) => false,
-            Statement::Word(datum) => !in_data && is_name(datum),
+            Statement::Word(datum) => !in_data && matches!(datum, Datum::Name(_)),
             Statement::Zero(_) => !in_data,
             Statement::Node { kind, fields } => {
                 !names_nodes(kinds.len(), *kind, fields.as_slice())

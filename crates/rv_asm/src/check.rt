@@ -1,62 +1,36 @@
 //! The faults of a line.
 
 ghost use Rattle.std.specs.Prelude.{◌≡◌};
-ghost use Rattle.std.specs.Option.{option_copied, option_map};
-ghost use Rattle.rv_asm.specs.inner.Reference.{shown};
-ghost use Rattle.rv_asm.specs.Fault.{is_kind, is_jump, says, lacks_partner, is_unknown, is_elsewhere, is_again, is_label, begins_again, is_twice};
-ghost use Rattle.rv_asm.specs.inner.Fault.{of_jumps, jump_follows};
+ghost use Rattle.rv_names.specs.Names.{definition_in};
+ghost use Rattle.rv_asm.specs.Fault.{is_kind, is_jump, says, is_unknown, is_elsewhere, is_twice};
+ghost use Rattle.rv_asm.specs.inner.Fault.{jump_follows};
 
-use crate::reference::{Reference, is_partner, reference_of};
+use crate::reference::{is_partner, reference_of};
 use crate::row::Row;
 use crate::switch::are_in_text;
 use elf_read::Name;
 use rv_line::Statement;
-use rv_names::{Definition, Names};
+use rv_names::Names;
 
-// Whether the statement sets the kind of the next indirect jump.
-fn is_kind(statement: &Statement) -> bool
-    ensures { result ≡ is_kind statement.now }
+// Whether a line sets the kind of the next indirect jump.
+fn says_kind(row: &Row) -> bool
+    ensures { result ≡ says is_kind row.now.statement }
 {
-    match statement {
-        Statement::KindCall(_) | Statement::KindTail(_) => true,
-        Statement::KindReturn | Statement::KindSwitch(_) => true,
+    match &row.statement {
+        Some(Statement::KindCall(_) | Statement::KindTail(_)) => true,
+        Some(Statement::KindReturn | Statement::KindSwitch(_)) => true,
         _ => false,
     }
 }
 
-// Whether the statement is an indirect jump.
-fn is_jump(statement: &Statement) -> bool
-    ensures { result ≡ is_jump statement.now }
+// Whether a line is an indirect jump.
+fn says_jump(row: &Row) -> bool
+    ensures { result ≡ says is_jump row.now.statement }
 {
-    match statement {
-        Statement::Jalr { .. } | Statement::Ret => true,
-        _ => false,
-    }
-}
-
-fn says_kind(statement: Option<&Statement>) -> bool
-    ensures { result ≡ says is_kind (option_copied statement.entry) }
-{
-    match statement {
-        Some(statement) => is_kind(statement),
-        None => false,
-    }
-}
-
-fn says_jump(statement: Option<&Statement>) -> bool
-    ensures { result ≡ says is_jump (option_copied statement.entry) }
-{
-    match statement {
-        Some(statement) => is_jump(statement),
-        None => false,
-    }
-}
-
-// Whether a line sets the kind of an indirect jump, or is one.
-fn of_jumps(row: &Row) -> bool
-    ensures { result ≡ of_jumps row.now }
-{
-    says_kind(row.statement.as_ref()) || says_jump(row.statement.as_ref())
+    matches!(
+        &row.statement,
+        Some(Statement::Jalr { .. } | Statement::Ret)
+    )
 }
 
 /// Whether an indirect jump follows before another kind.
@@ -65,23 +39,12 @@ pub fn jump_follows(rows: &[Row]) -> bool
 {
     let mut rows = rows;
     while let [row, rest @ ..] = rows {
-        if of_jumps(row) {
-            return says_jump(row.statement.as_ref());
+        if says_kind(row) || says_jump(row) {
+            return says_jump(row);
         }
         rows = rest;
     }
     false
-}
-
-fn lacks_partner(names: &Names, reference: Option<Reference<'_>>) -> bool
-    ensures { result ≡ lacks_partner names.now (option_map shown reference.entry) }
-{
-    match reference {
-        Some(Reference { kind, name }) => {
-            is_partner(kind) && names.text_value(name.as_str()).is_none()
-        }
-        None => false,
-    }
 }
 
 /// Whether a statement has a name that must be defined and is not.
@@ -91,47 +54,19 @@ pub fn is_unknown(names: &Names, statement: &Statement) -> bool
     match statement {
         Statement::Globl(name) => names.definition_of(name.as_str()).is_none(),
         Statement::KindSwitch(switch) => !are_in_text(names, switch.as_slice()),
-        _ => lacks_partner(names, reference_of(statement)),
+        _ => reference_of(statement).is_some_and(|reference| {
+            is_partner(reference.kind) && names.text_value(reference.name.as_str()).is_none()
+        }),
     }
 }
 
-// Whether a definition stands on another line.
-fn is_elsewhere(number: u32, definition: Option<Definition>) -> bool
-    ensures { result ≡ is_elsewhere number definition }
+// Whether the first definition of a name stands on another line than this one.
+fn is_elsewhere(names: &Names, number: u32, name: &Name) -> bool
+    ensures { result ≡ is_elsewhere number (definition_in names.now name.now) }
 {
-    match definition {
+    match names.definition_of(name.as_str()) {
         Some(definition) => definition.line != number,
         None => false,
-    }
-}
-
-fn is_again(names: &Names, number: u32, label: Option<&Name>) -> bool
-    ensures { result ≡ is_again names.now number (option_copied label.entry) }
-{
-    match label {
-        Some(label) => is_elsewhere(number, names.definition_of(label.as_str())),
-        None => false,
-    }
-}
-
-fn is_label(label: Option<&Name>, name: &Name) -> bool
-    ensures { result ≡ is_label (option_copied label.entry) name.now }
-{
-    match label {
-        Some(label) => label.as_str().as_bytes() == name.as_str().as_bytes(),
-        None => false,
-    }
-}
-
-fn begins_again(names: &Names, row: &Row, statement: &Statement) -> bool
-    ensures { result ≡ begins_again names.now row.now.number row.now.label statement.now }
-{
-    match statement {
-        Statement::Func { name, .. } => {
-            is_elsewhere(row.number, names.definition_of(name.as_str()))
-                || is_label(row.label.as_ref(), name)
-        }
-        _ => false,
     }
 }
 
@@ -139,5 +74,14 @@ fn begins_again(names: &Names, row: &Row, statement: &Statement) -> bool
 pub fn is_twice(names: &Names, row: &Row, statement: &Statement) -> bool
     ensures { result ≡ is_twice names.now row.now.number row.now.label statement.now }
 {
-    is_again(names, row.number, row.label.as_ref()) || begins_again(names, row, statement)
+    let number = row.number;
+    let label = row.label.as_ref();
+    label.is_some_and(|label| is_elsewhere(names, number, label))
+        || match statement {
+            Statement::Func { name, .. } => {
+                is_elsewhere(names, number, name)
+                    || label.is_some_and(|label| label.as_str() == name.as_str())
+            }
+            _ => false,
+        }
 }

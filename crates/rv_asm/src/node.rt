@@ -4,7 +4,7 @@ ghost use Rattle.std.specs.Prelude.{◌≡◌, ◌≤◌, ◌<◌, length, map, 
 ghost use Rattle.cfi_word.specs.declared.limits.TheConstants.{MAX_FIELDS};
 ghost use Rattle.std.specs.List.{list_all};
 ghost use Rattle.cfi_type_table.specs.Kind.{number_count};
-ghost use Rattle.rv_asm.specs.Node.{number_of, is_node, is_callable, callable_in, names_nodes, is_word, is_integer, fits, node_of};
+ghost use Rattle.rv_asm.specs.Node.{number_of, callable_in, names_nodes, is_word, fits, node_of};
 ghost use Rattle.rv_asm.specs.Words.{low_word};
 
 use crate::words::low_word;
@@ -32,16 +32,6 @@ fn number_of(kind: NodeKind) -> u32
     }
 }
 
-// Whether a node is of functions, with fixed or with variable arguments.
-fn is_callable(node: Option<NodeKind>) -> bool
-    ensures { result ≡ is_callable node }
-{
-    match node {
-        Some(kind) => is_callable_kind(number_of(kind)),
-        None => false,
-    }
-}
-
 /// The number of a node of functions. `None` where the number is none of these nodes, or another kind's.
 pub fn callable_in(nodes: &[NodeKind], number: i64) -> Option<u32>
     ensures same { result ≡ callable_in nodes.now number }
@@ -49,10 +39,9 @@ pub fn callable_in(nodes: &[NodeKind], number: i64) -> Option<u32>
     let Ok(number) = u32::try_from(number) else {
         return None;
     };
-    if is_callable(nodes.get(number as usize).copied()) {
-        Some(number)
-    } else {
-        None
+    match nodes.get(number as usize) {
+        Some(kind) if is_callable_kind(number_of(*kind)) => Some(number),
+        _ => None,
     }
 }
 
@@ -64,15 +53,6 @@ fn number_count(kind: NodeKind) -> usize
         NodeKind::Int => 2,
         NodeKind::Real | NodeKind::Array => 1,
         _ => 0,
-    }
-}
-
-fn is_node(count: usize, field: i64) -> bool
-    ensures { result ≡ is_node count field }
-{
-    match usize::try_from(field) {
-        Ok(number) => number < count,
-        Err(_) => false,
     }
 }
 
@@ -88,40 +68,22 @@ fn node_fields(kind: NodeKind, fields: &[i64]) -> &[i64]
 pub fn names_nodes(count: usize, kind: NodeKind, fields: &[i64]) -> bool
     ensures { result ≡ names_nodes count kind fields.now }
 {
-    node_fields(kind, fields)
-        .iter()
-        .all(|field| is_node(count, *field))
-}
-
-fn is_word(field: i64) -> bool
-    ensures { result ≡ is_word field }
-{
-    0 <= field && field <= i64::from(u32::MAX)
+    node_fields(kind, fields).iter().all(|field| usize::try_from(*field).is_ok_and(|number| number
+        < count))
 }
 
 fn are_words(fields: &[i64]) -> bool
     ensures { result ≡ list_all is_word fields.now }
 {
-    fields.iter().copied().all(is_word)
+    fields.iter().all(|field| u32::try_from(*field).is_ok())
 }
 
-// Whether the words may be the fields of an integer: 8, 16, 32 or 64 bits, and 1 where it is signed.
-fn is_integer(words: &[u32]) -> bool
-    ensures { result ≡ is_integer words.now }
-{
-    match words {
-        [bits, sign, ..] => {
-            (*bits == 8 || *bits == 16 || *bits == 32 || *bits == 64) && *sign <= 1
-        }
-        _ => true,
-    }
-}
-
+// Whether the words may be the fields of a kind: an integer has 8, 16, 32 or 64 bits, and 1 where it is signed.
 fn fits(kind: NodeKind, words: &[u32]) -> bool
     ensures { result ≡ fits kind words.now }
 {
-    match kind {
-        NodeKind::Int => is_integer(words),
+    match (kind, words) {
+        (NodeKind::Int, [bits, sign, ..]) => matches!(*bits, 8 | 16 | 32 | 64) && *sign <= 1,
         _ => true,
     }
 }

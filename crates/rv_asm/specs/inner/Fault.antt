@@ -7,14 +7,11 @@ use Rattle.rv_asm.specs.declared.spot.Spot.{Spot}
 use Rattle.rv_asm.specs.Fault.{Found, is_kind, is_jump, says, is_misplaced}
 use Rattle.rv_asm.specs.inner.Draft.{Draft}
 
--- the line sets the kind of the next indirect jump, or is one
-abbrev pub of_jumps : Row → Bool
-of_jumps row = says is_kind row.statement || says is_jump row.statement
-
 -- an indirect jump follows before another kind
 abbrev pub jump_follows : (rows : List Row) → Bool
 jump_follows [] = false
-jump_follows (row ∷ rows) = if of_jumps row then says is_jump row.statement else jump_follows rows
+jump_follows (row ∷ rows) =
+    if says is_kind row.statement || says is_jump row.statement then says is_jump row.statement else jump_follows rows
 
 -- what a statement finds by the draft of the lines before it and the rows of those after it
 abbrev pub found_by : Spot → Draft → (rest : List Row) → Found
