@@ -1,7 +1,7 @@
 //! The words of a statement where it stands.
 
 ghost use Rattle.std.specs.Prelude.{◌≡◌, ◌<◌, pos};
-ghost use Rattle.rv_asm.specs.Words.{distance, offset_of, pair, number_words, words_of};
+ghost use Rattle.rv_asm.specs.Words.{offset_of, pair, words_of};
 ghost use Rattle.rv_insn.specs.declared.insn.ImmOp.TheVariants.{Addi};
 ghost use Rattle.rv_insn.specs.declared.insn.Insn.TheVariants as insns;
 
@@ -15,13 +15,6 @@ use rv_line::{Datum, Register, Statement, Target};
 use rv_names::Names;
 use rv_text::FULL_FENCE;
 
-// From one place of the text to another, in bytes.
-fn distance(from: u32, to: u32) -> i64
-    ensures { result ≡ distance from to }
-{
-    i64::from(to) - i64::from(from)
-}
-
 // How far a jump or a branch at this place leads. What a relocation fills in is 0.
 fn offset_of(names: &Names, at: u32, target: &Target) -> i64
     ensures { result ≡ offset_of names.now at target.now }
@@ -29,7 +22,7 @@ fn offset_of(names: &Names, at: u32, target: &Target) -> i64
     match target {
         Target::Offset(number) => *number,
         Target::Name(name) => match names.text_value(name.as_str()) {
-            Some(value) => distance(at, value),
+            Some(value) => i64::from(value) - i64::from(at),
             None => 0,
         },
     }
@@ -65,16 +58,6 @@ fn far_words(rd: u32, register: u32) -> Words
             imm: 0,
         },
     )
-}
-
-// The word of a number.
-fn number_words(datum: &Datum) -> Option<Words>
-    ensures { result ≡ number_words datum.now }
-{
-    match datum {
-        Datum::Number(number) => Some(Words::One(low_word(*number))),
-        Datum::Name(_) => None,
-    }
 }
 
 /// The words of a statement that stands at this place of the text, in bytes from its start.
@@ -115,7 +98,7 @@ pub fn words_of(names: &Names, at: u32, statement: &Statement) -> Option<Words>
         })),
         Statement::Call(_) => Some(far_words(1, 1)),
         Statement::Tail(_) => Some(far_words(0, 6)),
-        Statement::Word(datum) => number_words(datum),
+        Statement::Word(Datum::Number(number)) => Some(Words::One(low_word(*number))),
         _ => None,
     }
 }

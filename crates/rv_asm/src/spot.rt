@@ -2,7 +2,7 @@
 
 ghost use Rattle.std.specs.Prelude.{◌≡◌, IfOk};
 ghost use Rattle.std.specs.String.{string_bytes};
-ghost use Rattle.rv_asm.specs.Spot.{number_size, text_size, data_size, zero_size, pair_label};
+ghost use Rattle.rv_asm.specs.Spot.{text_size, data_size, zero_size, pair_label};
 ghost use Rattle.rv_asm.specs.inner.Spot.{at_most};
 
 use crate::words::{li_words, low_word};
@@ -106,11 +106,12 @@ fn text_size(statement: &Statement) -> u32
     match statement {
         Statement::Li { rd, number } => li_words(*rd, low_word(*number)).size(),
         Statement::La { .. } | Statement::Call(_) | Statement::Tail(_) => 8,
-        Statement::Word(datum) => number_size(datum),
+        Statement::Word(Datum::Number(_)) => 4,
         Statement::Blank
         | Statement::Text
         | Statement::Data
         | Statement::Globl(_)
+        | Statement::Word(Datum::Name(_))
         | Statement::Zero(_)
         | Statement::Node { .. }
         | Statement::Func { .. }
@@ -120,16 +121,6 @@ fn text_size(statement: &Statement) -> u32
         | Statement::KindReturn
         | Statement::KindSwitch(_) => 0,
         _ => 4,
-    }
-}
-
-// The bytes that a number adds to the text, where a name has no place.
-fn number_size(datum: &Datum) -> u32
-    ensures { result ≡ number_size datum.now }
-{
-    match datum {
-        Datum::Number(_) => 4,
-        Datum::Name(_) => 0,
     }
 }
 
