@@ -1,3 +1,4 @@
+pub mod Abi
 pub mod Table
 pub mod Number
 pub mod Register
