@@ -9,18 +9,16 @@ use Rattle.cfi_unit.specs.declared.unit.Unit.{Unit as CodeUnit}
 use Rattle.cfi_unit.specs.declared.unit.Unit.TheVariants as units
 use Rattle.rv_insn.specs.declared.insn.Insn.{Insn}
 use Rattle.rv_insn.specs.declared.insn.Insn.TheVariants as insns
-use Rattle.rv_insn.specs.declared.insn.Cond.{Cond}
-use Rattle.rv_insn.specs.declared.insn.Cond.TheVariants.{Beq, Bne, Blt, Bge, Bltu, Bgeu}
-use Rattle.rv_insn.specs.declared.insn.LoadKind.{LoadKind}
-use Rattle.rv_insn.specs.declared.insn.LoadKind.TheVariants.{Lb, Lh, Lw, Lbu, Lhu}
-use Rattle.rv_insn.specs.declared.insn.StoreKind.{StoreKind}
-use Rattle.rv_insn.specs.declared.insn.StoreKind.TheVariants.{Sb, Sh, Sw}
-use Rattle.rv_insn.specs.declared.insn.ImmOp.{ImmOp}
-use Rattle.rv_insn.specs.declared.insn.ImmOp.TheVariants.{Addi, Slli, Slti, Sltiu, Xori, Srli, Srai, Ori, Andi}
-use Rattle.rv_insn.specs.declared.insn.Op.{Op}
-use Rattle.rv_insn.specs.declared.insn.Op.TheVariants.{Add, Sub, Sll, Slt, Sltu, Xor, Srl, Sra, Or, And}
+use Rattle.rv_insn.specs.declared.insn.Cond.TheVariants.{Beq}
+use Rattle.rv_insn.specs.declared.insn.LoadKind.TheVariants.{Lb}
+use Rattle.rv_insn.specs.declared.insn.StoreKind.TheVariants.{Sb}
+use Rattle.rv_insn.specs.declared.insn.ImmOp.TheVariants.{Addi}
+use Rattle.rv_insn.specs.declared.insn.Op.TheVariants.{Add}
 use Rattle.rv_insn.specs.declared.opcode.TheConstants as opcodes
 use Rattle.rv_insn.specs.InsnOf.{insn_of}
+use Rattle.rv_line.specs.declared.keyword.Mnemonic.{Mnemonic}
+use Rattle.rv_line.specs.declared.keyword.Mnemonic.TheVariants as mnemonic
+use Rattle.rv_line.specs.Keyword.{mnemonic_text}
 use Rattle.rv_text.specs.declared.text.TheConstants.{FULL_FENCE}
 use Rattle.rv_text.specs.Names.{cond_name, load_name, store_name, imm_op_name, op_name}
 use Rattle.rv_text.specs.Text.{hex, offset_text, upper_text, jump_text, branch_text, place_text, immediate_text, registers_text, word_number, fence_text, text_of, read_text, word_text}
@@ -64,64 +62,29 @@ hex-short (suc count) value =
 
 -- ---- mnemonics
 
-cond-short : (c : Cond) → length (cond_name c) ≤ 5
-cond-short Beq = omega arith
-cond-short Bne = omega arith
-cond-short Blt = omega arith
-cond-short Bge = omega arith
-cond-short Bltu = omega arith
-cond-short Bgeu = omega arith
-
-load-short : (k : LoadKind) → length (load_name k) ≤ 5
-load-short Lb = omega arith
-load-short Lh = omega arith
-load-short Lw = omega arith
-load-short Lbu = omega arith
-load-short Lhu = omega arith
-
-store-short : (k : StoreKind) → length (store_name k) ≤ 5
-store-short Sb = omega arith
-store-short Sh = omega arith
-store-short Sw = omega arith
-
-imm_op-short : (o : ImmOp) → length (imm_op_name o) ≤ 5
-imm_op-short Addi = omega arith
-imm_op-short Slli = omega arith
-imm_op-short Slti = omega arith
-imm_op-short Sltiu = omega arith
-imm_op-short Xori = omega arith
-imm_op-short Srli = omega arith
-imm_op-short Srai = omega arith
-imm_op-short Ori = omega arith
-imm_op-short Andi = omega arith
-
-op-short : (o : Op) → length (op_name o) ≤ 5
-op-short Add = omega arith
-op-short Sub = omega arith
-op-short Sll = omega arith
-op-short Slt = omega arith
-op-short Sltu = omega arith
-op-short Xor = omega arith
-op-short Srl = omega arith
-op-short Sra = omega arith
-op-short Or = omega arith
-op-short And = omega arith
+name-short : (insn : Mnemonic) → length (mnemonic_text insn) ≤ 6
+name-short (mnemonic.Op Add) = omega arith
+name-short (mnemonic.OpImm Addi) = omega arith
+name-short (mnemonic.Load Lb) = omega arith
+name-short (mnemonic.Store Sb) = omega arith
+name-short (mnemonic.Branch Beq) = omega arith
+name-short insn = omega arith
 
 -- ---- instructions
 
 -- a name, a register and a comma or more, which are of this length
-headed : (name : List ℕ) (r : ℕ) (mid : List ℕ) → length name ≤ 5 → length mid ≤ 3 →
-    length (name ++ codes " x" ++ decimal r ++ mid) ≤ 74
+headed : (name : List ℕ) (r : ℕ) (mid : List ℕ) → length name ≤ 6 → length mid ≤ 3 →
+    length (name ++ codes " x" ++ decimal r ++ mid) ≤ 75
 headed name r mid short few =
-    joined (name ++ codes " x" ++ decimal r) mid 71 3
-    (joined (name ++ codes " x") (decimal r) 7 64 (joined name (codes " x") 5 2 short (omega arith)) (decimal-short r))
+    joined (name ++ codes " x" ++ decimal r) mid 72 3
+    (joined (name ++ codes " x") (decimal r) 8 64 (joined name (codes " x") 6 2 short (omega arith)) (decimal-short r))
     few
 
-upper-short : (name : List ℕ) (rd imm : ℕ) → length name ≤ 5 → length (upper_text name rd imm) ≤ 220
+upper-short : (name : List ℕ) (rd imm : ℕ) → length name ≤ 6 → length (upper_text name rd imm) ≤ 220
 upper-short name rd imm short =
     omega (
       arith,
-      joined (name ++ codes " x" ++ decimal rd ++ codes ",0x") (hex imm) 74 64
+      joined (name ++ codes " x" ++ decimal rd ++ codes ",0x") (hex imm) 75 64
           (headed name rd (codes ",0x") short (omega arith)) (digits-short 16 _ imm),
     )
 
@@ -134,48 +97,48 @@ jump-short rd off =
           (joined (codes "jal x") (decimal rd) 5 64 (omega arith) (decimal-short rd)) (omega arith)) (offset-short off),
     )
 
-place-short : (name : List ℕ) (r base : ℕ) (imm : ℤ) → length name ≤ 5 → length (place_text name r base imm) ≤ 220
+place-short : (name : List ℕ) (r base : ℕ) (imm : ℤ) → length name ≤ 6 → length (place_text name r base imm) ≤ 220
 place-short name r base imm short =
     let front = name ++ codes " x" ++ decimal r ++ codes "," in
     omega (
       arith,
-      joined (front ++ signed_decimal imm ++ codes "(x" ++ decimal base) (codes ")") 205 1
-          (joined (front ++ signed_decimal imm ++ codes "(x") (decimal base) 141 64
-          (joined (front ++ signed_decimal imm) (codes "(x") 139 2
-          (joined front (signed_decimal imm) 74 65 (headed name r (codes ",") short (omega arith)) (signed-short imm))
+      joined (front ++ signed_decimal imm ++ codes "(x" ++ decimal base) (codes ")") 206 1
+          (joined (front ++ signed_decimal imm ++ codes "(x") (decimal base) 142 64
+          (joined (front ++ signed_decimal imm) (codes "(x") 140 2
+          (joined front (signed_decimal imm) 75 65 (headed name r (codes ",") short (omega arith)) (signed-short imm))
           (omega arith)) (decimal-short base)) (omega arith),
     )
 
 -- a second register
-second : (name : List ℕ) (r s : ℕ) (mid : List ℕ) → length name ≤ 5 → length mid ≤ 2 →
-    length (name ++ codes " x" ++ decimal r ++ codes ",x" ++ decimal s ++ mid) ≤ 140
+second : (name : List ℕ) (r s : ℕ) (mid : List ℕ) → length name ≤ 6 → length mid ≤ 2 →
+    length (name ++ codes " x" ++ decimal r ++ codes ",x" ++ decimal s ++ mid) ≤ 141
 second name r s mid short few =
     let front = name ++ codes " x" ++ decimal r ++ codes ",x" in
-    joined (front ++ decimal s) mid 138 2
-    (joined front (decimal s) 74 64 (headed name r (codes ",x") short (omega arith)) (decimal-short s)) few
+    joined (front ++ decimal s) mid 139 2
+    (joined front (decimal s) 75 64 (headed name r (codes ",x") short (omega arith)) (decimal-short s)) few
 
-branch-short : (name : List ℕ) (rs1 rs2 : ℕ) (off : ℤ) → length name ≤ 5 → length (branch_text name rs1 rs2 off) ≤ 220
+branch-short : (name : List ℕ) (rs1 rs2 : ℕ) (off : ℤ) → length name ≤ 6 → length (branch_text name rs1 rs2 off) ≤ 220
 branch-short name rs1 rs2 off short =
     omega (
       arith,
-      joined (name ++ codes " x" ++ decimal rs1 ++ codes ",x" ++ decimal rs2 ++ codes ",") (offset_text off) 140 66
+      joined (name ++ codes " x" ++ decimal rs1 ++ codes ",x" ++ decimal rs2 ++ codes ",") (offset_text off) 141 66
           (second name rs1 rs2 (codes ",") short (omega arith)) (offset-short off),
     )
 
-immediate-short : (name : List ℕ) (rd rs1 : ℕ) (imm : ℤ) → length name ≤ 5 →
+immediate-short : (name : List ℕ) (rd rs1 : ℕ) (imm : ℤ) → length name ≤ 6 →
     length (immediate_text name rd rs1 imm) ≤ 220
 immediate-short name rd rs1 imm short =
     omega (
       arith,
-      joined (name ++ codes " x" ++ decimal rd ++ codes ",x" ++ decimal rs1 ++ codes ",") (signed_decimal imm) 140 65
+      joined (name ++ codes " x" ++ decimal rd ++ codes ",x" ++ decimal rs1 ++ codes ",") (signed_decimal imm) 141 65
           (second name rd rs1 (codes ",") short (omega arith)) (signed-short imm),
     )
 
-registers-short : (name : List ℕ) (rd rs1 rs2 : ℕ) → length name ≤ 5 → length (registers_text name rd rs1 rs2) ≤ 220
+registers-short : (name : List ℕ) (rd rs1 rs2 : ℕ) → length name ≤ 6 → length (registers_text name rd rs1 rs2) ≤ 220
 registers-short name rd rs1 rs2 short =
     omega (
       arith,
-      joined (name ++ codes " x" ++ decimal rd ++ codes ",x" ++ decimal rs1 ++ codes ",x") (decimal rs2) 140 64
+      joined (name ++ codes " x" ++ decimal rd ++ codes ",x" ++ decimal rs1 ++ codes ",x") (decimal rs2) 141 64
           (second name rd rs1 (codes ",x") short (omega arith)) (decimal-short rs2),
     )
 
@@ -194,11 +157,11 @@ insn-short (insns.Lui rd imm) = upper-short (codes "lui") rd imm (omega arith)
 insn-short (insns.Auipc rd imm) = upper-short (codes "auipc") rd imm (omega arith)
 insn-short (insns.Jal rd off) = jump-short rd off
 insn-short (insns.Jalr rd rs1 imm) = place-short (codes "jalr") rd rs1 imm (omega arith)
-insn-short (insns.Branch cond rs1 rs2 off) = branch-short (cond_name cond) rs1 rs2 off (cond-short cond)
-insn-short (insns.Load kind rd rs1 imm) = place-short (load_name kind) rd rs1 imm (load-short kind)
-insn-short (insns.Store kind rs1 rs2 imm) = place-short (store_name kind) rs2 rs1 imm (store-short kind)
-insn-short (insns.OpImm op rd rs1 imm) = immediate-short (imm_op_name op) rd rs1 imm (imm_op-short op)
-insn-short (insns.Op op rd rs1 rs2) = registers-short (op_name op) rd rs1 rs2 (op-short op)
+insn-short (insns.Branch cond rs1 rs2 off) = branch-short (cond_name cond) rs1 rs2 off (name-short (mnemonic.Branch cond))
+insn-short (insns.Load kind rd rs1 imm) = place-short (load_name kind) rd rs1 imm (name-short (mnemonic.Load kind))
+insn-short (insns.Store kind rs1 rs2 imm) = place-short (store_name kind) rs2 rs1 imm (name-short (mnemonic.Store kind))
+insn-short (insns.OpImm op rd rs1 imm) = immediate-short (imm_op_name op) rd rs1 imm (name-short (mnemonic.OpImm op))
+insn-short (insns.Op op rd rs1 rs2) = registers-short (op_name op) rd rs1 rs2 (name-short (mnemonic.Op op))
 insn-short (insns.Fence fields) = fence-short (opcodes.FENCE + fields)
 insn-short insns.Ecall = omega arith
 insn-short insns.Ebreak = omega arith

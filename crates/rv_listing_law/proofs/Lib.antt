@@ -6,7 +6,6 @@ pub mod HexLemmas
 pub mod PartLemmas
 pub mod LineLemmas
 pub mod KeywordLemmas
-pub mod FormLemmas
 pub mod SayLemmas
 pub mod ListingLemmas
 pub mod WordsLemmas

@@ -2,7 +2,7 @@
 use Rattle.std.proofs.Common.{◌≡◌, ℕ, zero, suc, ◌+◌, ◌-◌, ◌*◌, ◌^◌, ◌<◌, ◌≤◌, Option, Some, None, List, [], ◌∷◌, ◌++◌, length, drop, map, refl, sym, ap, ◌∙◌, append_assoc, arith}
 use Rattle.std.specs.Prelude.{slice_index, codes, All}
 use Rattle.std.specs.List.{list_all}
-use Rattle.std.proofs.lemmas.Bool.{cond-false, and_parts}
+use Rattle.std.proofs.lemmas.Bool.{cond-false, and_parts, not-true}
 use Rattle.std.proofs.lemmas.List.{drop_more, drop_all}
 use Rattle.cfi_text.specs.Lines.{onto_first, lines_of}
 use Rattle.cfi_text.specs.Hex.{hex8_text}
@@ -16,7 +16,6 @@ use Rattle.rv_line.specs.Operand.{is_byte}
 use Rattle.rv_line.specs.Line.{line_in}
 use Rattle.rv_listing_law.specs.Back.{word_line, first_line}
 use Rattle.rv_listing_law.proofs.ByteLemmas.{AllPass, AllPass-append, differs, line-all, plain-hex_digits}
-use Rattle.rv_listing_law.proofs.OperandLemmas.{not_passed}
 use Rattle.rv_listing_law.proofs.SayLemmas.{line-word, line_in-word, line_in-first}
 
 -- what the lines of a text say
@@ -28,7 +27,7 @@ lines_of-line : (a b : List ℕ) → AllPass (differs 10) a → lines_of (a ++ 1
 lines_of-line [] b h = refl
 lines_of-line (x ∷ a) b h =
     let parts = and_parts _ _ h in
-    cond-false (is_byte 10 x) _ _ (not_passed (is_byte 10 x) parts.0) ∙ ap (onto_first x) (lines_of-line a b parts.1)
+    cond-false (is_byte 10 x) _ _ (not-true (is_byte 10 x) parts.0) ∙ ap (onto_first x) (lines_of-line a b parts.1)
 
 -- the line of a word
 said-line : (word offset : ℕ) (mark rest : List ℕ) → word < 2 ^ 32 → AllPass (differs 10) mark →

@@ -4,7 +4,7 @@ use Rattle.std.specs.Prelude.{nat_eq, nat_lt, codes, option_map, option_and_then
 use Rattle.std.specs.Int.{IsInRange}
 use Rattle.std.specs.List.{starts_with}
 use Rattle.std.specs.Fmt.{decimal, signed_decimal}
-use Rattle.std.proofs.lemmas.Bool.{cond-true, cond-false, lt-ltb}
+use Rattle.std.proofs.lemmas.Bool.{cond-true, cond-false, and_right, lt-ltb}
 use Rattle.std.proofs.lemmas.Bool.Decides.{nat_tests}
 use Rattle.cfi_text.specs.Decimal.{AreDigits, dec_text, small_number_in}
 use Rattle.cfi_text.proofs.DecimalLemmas.{IsDecimal-dec_text, number_in-some, at_most-text}
@@ -13,19 +13,14 @@ use Rattle.rv_text.specs.Text.{offset_text}
 use Rattle.rv_line.specs.declared.statement.Target.TheVariants as targets
 use Rattle.rv_line.specs.Number.{negated, integer_in}
 use Rattle.rv_line.specs.Register.{named_register, numbered_register, register_in}
-use Rattle.rv_line.specs.Operand.{target_in}
+use Rattle.rv_line.specs.Target.{target_in}
 
 -- digits do not begin as other numbers do
-and-false : (x : Bool) → (x && false) ≡ false
-and-false true = refl
-and-false false = refl
-
 not_hex : (ds : List ℕ) → AreDigits ds → starts_with nat_eq ds (codes "0x") ≡ false
 not_hex [] h = refl
-not_hex (c ∷ []) h = and-false (nat_eq 48 c)
+not_hex (c ∷ []) h = and_right (nat_eq 48 c) _ refl
 not_hex (c ∷ d ∷ ds) h =
-    let other : nat_eq 120 d ≡ false = differs d h.1.0 in
-    ap (λ t. nat_eq 48 c && (t && true)) other ∙ and-false (nat_eq 48 c)
+    let other : nat_eq 120 d ≡ false = differs d h.1.0 in and_right (nat_eq 48 c) _ (ap (λ t. t && true) other)
   where
     differs : (d : ℕ) → IsInRange 48 57 d → nat_eq 120 d ≡ false
     differs d k = grind (arith, nat_tests)

@@ -1,11 +1,9 @@
 -- The statement of a word makes this word again.
 use Rattle.std.proofs.Common.{◌≡◌, ℕ, ◌+◌, ◌%◌, ◌^◌, ◌<◌, ◌==◌, ◌&&◌, Bool, true, false, Option, Some, None, List, ℤ, pos, negsuc, refl, sym, ap, ◌∙◌, arith}
-use Rattle.std.specs.Prelude.{nat_lt}
+use Rattle.std.specs.Prelude.{nat_lt, is_some, if◌then◌else◌}
 use Rattle.std.proofs.lemmas.Bool.{cond-true, and_from, lt-ltb, eq-eqb, eqb-true}
 use Rattle.rv_insn.specs.declared.insn.Insn.{Insn}
 use Rattle.rv_insn.specs.declared.insn.Insn.TheVariants as insns
-use Rattle.rv_insn.specs.declared.insn.ImmOp.{ImmOp}
-use Rattle.rv_insn.specs.declared.insn.ImmOp.TheVariants.{Addi, Slli, Slti, Sltiu, Xori, Srli, Srai, Ori, Andi}
 use Rattle.rv_insn.specs.declared.opcode.TheConstants as opcodes
 use Rattle.rv_insn.specs.Word.{IsSigned, IsEven}
 use Rattle.rv_insn.specs.Rows.{imm_funct7}
@@ -16,7 +14,7 @@ use Rattle.rv_text.specs.declared.text.TheConstants.{FULL_FENCE}
 use Rattle.rv_line.specs.declared.statement.Low.TheVariants as lows
 use Rattle.rv_names.specs.declared.names.Entry.{Entry}
 use Rattle.rv_asm.specs.declared.words.Words.TheVariants.{One}
-use Rattle.rv_asm.specs.Words.{signed_field, is_even, offset_field, unsigned_field, imm_field, one, words_of}
+use Rattle.rv_asm.specs.Words.{signed_field, is_even, offset_field, unsigned_field, low_field, shift_field, one, words_of}
 use Rattle.rv_insn.specs.Fields.{is_signed}
 use Rattle.rv_listing_law.specs.Back.{number_statement, fence_statement, statement_of, read_statement, word_statement}
 
@@ -39,19 +37,11 @@ offset_field-range half off h k =
 unsigned_field-range : (most n : ℕ) → n < most → unsigned_field most (pos n) ≡ Some n
 unsigned_field-range most n h = cond-true (nat_lt n most) _ _ (lt-ltb n most h)
 
-imm_field-range : (op : ImmOp) (imm : ℤ) → IsImmOf (imm_funct7 op) imm → imm_field op (lows.Number imm) ≡ Some imm
-imm_field-range Addi imm h = signed_field-range (2 ^ 11) imm h
-imm_field-range Slli (pos n) h = cond-true (nat_lt n 32) _ _ (lt-ltb n 32 h)
-imm_field-range Slli (negsuc n) h = absurd h
-imm_field-range Slti imm h = signed_field-range (2 ^ 11) imm h
-imm_field-range Sltiu imm h = signed_field-range (2 ^ 11) imm h
-imm_field-range Xori imm h = signed_field-range (2 ^ 11) imm h
-imm_field-range Srli (pos n) h = cond-true (nat_lt n 32) _ _ (lt-ltb n 32 h)
-imm_field-range Srli (negsuc n) h = absurd h
-imm_field-range Srai (pos n) h = cond-true (nat_lt n 32) _ _ (lt-ltb n 32 h)
-imm_field-range Srai (negsuc n) h = absurd h
-imm_field-range Ori imm h = signed_field-range (2 ^ 11) imm h
-imm_field-range Andi imm h = signed_field-range (2 ^ 11) imm h
+imm_field-range : (funct7 : Option ℕ) (imm : ℤ) → IsImmOf funct7 imm →
+    (if is_some funct7 then shift_field (lows.Number imm) else low_field (lows.Number imm)) ≡ Some imm
+imm_field-range None imm h = signed_field-range (2 ^ 11) imm h
+imm_field-range (Some funct7) (pos n) h = cond-true (nat_lt n 32) _ _ (lt-ltb n 32 h)
+imm_field-range (Some funct7) (negsuc n) h = absurd h
 
 module _ (table : List Entry) (at : ℕ) where
   -- words by their numbers, and fences
@@ -75,7 +65,7 @@ module _ (table : List Entry) (at : ℕ) where
   words_of-insn (insns.Branch condition rs1 rs2 off) h small = rw (offset_field-range (2 ^ 12) off h.2 h.3) refl
   words_of-insn (insns.Load kind rd rs1 imm) h small = rw (signed_field-range (2 ^ 11) imm h.2) refl
   words_of-insn (insns.Store kind rs1 rs2 imm) h small = rw (signed_field-range (2 ^ 11) imm h.2) refl
-  words_of-insn (insns.OpImm op rd rs1 imm) h small = rw (imm_field-range op imm h.2) refl
+  words_of-insn (insns.OpImm op rd rs1 imm) h small = rw (imm_field-range (imm_funct7 op) imm h.2) refl
   words_of-insn (insns.Op op rd rs1 rs2) h small = refl
   words_of-insn (insns.Fence fields) h small =
       words_of-fence (opcodes.FENCE + fields) small (opcodes.FENCE + fields == FULL_FENCE) refl
