@@ -1,211 +1,153 @@
 -- The names in a line of a source are at most 255 bytes long, its node has as many fields as its kind may have, and its
 -- switch has a name.
-use Rattle.std.proofs.Common.{◌≡◌, ℕ, ℤ, pos, Bool, true, false, List, [], ◌∷◌, length, if◌then◌else◌, Option, Some, None, refl, arith}
+use Rattle.std.proofs.Common.{◌≡◌, ℕ, ℤ, Bool, true, false, List, [], ◌∷◌, ◌++◌, length, if◌then◌else◌, Option, Some, None, refl, arith}
 use Rattle.std.specs.Prelude.{codes}
 use Rattle.std.specs.Str.{bytes_eq}
 use Rattle.cfi_text.specs.Lines.{statement_of}
 use Rattle.cfi_text.specs.Names.{name_in}
 use Rattle.cfi_text.specs.Words.{unblanked, first_word, after_word, words_in}
-use Rattle.rv_insn.specs.declared.insn.Cond.{Cond}
 use Rattle.rv_insn.specs.declared.insn.ImmOp.{ImmOp}
 use Rattle.rv_insn.specs.declared.insn.ImmOp.TheVariants.{Addi}
-use Rattle.rv_insn.specs.declared.insn.Op.{Op}
-use Rattle.rv_line.specs.declared.called.Keyword.{Keyword}
-use Rattle.rv_line.specs.declared.called.Keyword.TheVariants as keywords
+use Rattle.rv_line.specs.declared.keyword.Directive.{Directive}
+use Rattle.rv_line.specs.declared.keyword.Directive.TheVariants as directive
+use Rattle.rv_line.specs.declared.keyword.Mnemonic.{Mnemonic}
+use Rattle.rv_line.specs.declared.keyword.Mnemonic.TheVariants as mnemonic
+use Rattle.rv_line.specs.declared.keyword.Short.{Short}
+use Rattle.rv_line.specs.declared.keyword.Short.TheVariants as short
 use Rattle.rv_line.specs.declared.line.Line.{Line}
 use Rattle.rv_line.specs.declared.statement.High.{High}
-use Rattle.rv_line.specs.declared.statement.NodeKind.{NodeKind}
 use Rattle.rv_line.specs.declared.statement.High.TheVariants as highs
-use Rattle.rv_line.specs.declared.statement.Low.TheVariants as lows
+use Rattle.rv_line.specs.declared.statement.Low.{Low}
+use Rattle.rv_line.specs.declared.statement.NodeKind.{NodeKind}
 use Rattle.rv_line.specs.declared.statement.Statement.{Statement}
 use Rattle.rv_line.specs.declared.statement.Statement.TheVariants as statements
-use Rattle.rv_line.specs.Called.{op_called, imm_op_called, load_called, store_called, cond_called, keyword_called, node_kind_called}
+use Rattle.rv_line.specs.Keyword.{called, mnemonic_text, mnemonics, short_text, shorts, directive_text, directives, node_kind_text, node_kinds}
 use Rattle.rv_line.specs.Line.{words_form, labelled_in, parts_in, line_in}
 use Rattle.rv_line.specs.Number.{integer_in}
-use Rattle.rv_line.specs.Operand.{word_in, cut, two_in, three_in, low_in, target_in, datum_in}
-use Rattle.rv_line.specs.Register.{register_in}
-use Rattle.rv_line.specs.Statement.{op_form, takes, imm_op_form, register_and_place, branch_form, register_and_high, lui_by, jal_form, alone, mv_form, li_form, la_form, j_form, jr_form, name_form, word_form, zero_form, names_in, integers_in, has_count, node_words, func_by, func_words, switch_of, only_integer, kind_by, kind_words, keyword_form, form_or, form_of}
-use Rattle.cfi_made_law.proofs.AsmOperandLemmas.{IsShort, IsFormed, Gives, none, given, bind, mapped, chained, either, name-short, ShortHigh, low-refers, high-refers, target-refers, datum-refers, low-short, target-short, datum-short, pair-short, upper-short, one_name-short, AllShort, names-short}
+use Rattle.rv_line.specs.Operand.{is_empty, cut, operands_in, operand, no_operands}
+use Rattle.rv_line.specs.Statement.{takes, imm_op_by, lui_by, alone, insn_in, short_in, names_in, integers_in, has_count, node_words, func_by, func_words, switch_of, only_integer, kind_by, kind_words, directive_in, said_or, form_of}
+use Rattle.cfi_made_law.proofs.AsmOperandLemmas.{IsShort, IsFormed, Gives, none, given, mapped, chained, either, name-short, AllShort, names-short, ShortLow, low-short, ShortHigh, high-short, ShortPlace, place-short, ShortTarget, target-short, ShortDatum, datum-short, one-gives, two-gives, three-gives}
 
--- ---- the forms
+abbrev Formed : Option Statement → Type 0
+Formed form = Gives IsFormed form
 
-abbrev Short : Option Statement → Type 0
-Short form = Gives IsFormed form
+-- ---- instructions and short forms
 
-op-short : (op : Op) (rest : List ℕ) → Short (op_form op rest)
-unfolding op_form
-op-short op rest =
-    bind IsFormed (three_in rest) _ (λ words e. bind IsFormed (register_in words.0) _ (λ rd f.
-    bind IsFormed (register_in words.1) _ (λ rs1 g. bind IsFormed (register_in words.2) _ (λ rs2 h.
-    given IsFormed (statements.Op op rd rs1 rs2) tt))))
+imm_op-formed : (op : ImmOp) (rd rs1 : ℕ) (imm : Low) → ShortLow imm → Formed (imm_op_by op rd rs1 imm)
+imm_op-formed op rd rs1 imm short = either IsFormed (takes op imm) _ _ (given IsFormed _ (short _ _)) (none IsFormed)
 
-imm_op-short : (op : ImmOp) (rest : List ℕ) → Short (imm_op_form op rest)
-unfolding imm_op_form
-imm_op-short op rest =
-    bind IsFormed (three_in rest) _ (λ words e. bind IsFormed (register_in words.0) _ (λ rd f.
-    bind IsFormed (register_in words.1) _ (λ rs1 g. bind IsFormed (low_in words.2) _ (λ imm is.
-    either IsFormed (takes op imm) _ _
-    (given IsFormed (statements.OpImm op rd rs1 imm) (low-refers _ _ imm (low-short words.2 imm is)))
-    (none IsFormed)))))
+lui-formed : (rd : ℕ) (imm : High) → ShortHigh imm → Formed (lui_by rd imm)
+lui-formed rd (highs.Number number) short = given IsFormed _ tt
+lui-formed rd (highs.Hi name) short = given IsFormed _ short
+lui-formed rd (highs.PcrelHi name) short = none IsFormed
 
-branch-short : (condition : Cond) (rest : List ℕ) → Short (branch_form condition rest)
-unfolding branch_form
-branch-short condition rest =
-    bind IsFormed (three_in rest) _ (λ words e. bind IsFormed (register_in words.0) _ (λ rs1 f.
-    bind IsFormed (register_in words.1) _ (λ rs2 g. bind IsFormed (target_in words.2) _ (λ target is.
-    given IsFormed (statements.Branch condition rs1 rs2 target)
-    (target-refers _ target (target-short words.2 target is))))))
+alone-formed : (s : Statement) (operands : List (List (List ℕ))) → IsFormed s → Formed (alone s operands)
+alone-formed s operands is = either IsFormed (no_operands operands) _ _ (given IsFormed s is) (none IsFormed)
 
-lui_by-short : (rd : ℕ) (imm : High) → ShortHigh imm → Short (lui_by rd imm)
-lui_by-short rd (highs.Number number) short = given IsFormed (statements.Lui rd (highs.Number number)) tt
-lui_by-short rd (highs.Hi name) short = given IsFormed (statements.Lui rd (highs.Hi name)) short
-lui_by-short rd (highs.PcrelHi name) short = none IsFormed
+insn-formed : (insn : Mnemonic) (operands : List (List (List ℕ))) → Formed (insn_in insn operands)
+insn-formed (mnemonic.Op op) operands = mapped IsFormed _ _ (λ p e. tt)
+insn-formed (mnemonic.OpImm op) operands =
+    chained IsFormed _ _ (λ p is. imm_op-formed op p.0 p.1 p.2 (three-gives ShortLow _ _ _ low-short operands p is))
+insn-formed (mnemonic.Load kind) operands =
+    mapped IsFormed _ _ (λ p is. two-gives ShortPlace _ _ place-short operands p is _ _)
+insn-formed (mnemonic.Store kind) operands =
+    mapped IsFormed _ _ (λ p is. two-gives ShortPlace _ _ place-short operands p is _ _)
+insn-formed (mnemonic.Branch cond) operands =
+    mapped IsFormed _ _ (λ p is. three-gives ShortTarget _ _ _ target-short operands p is _)
+insn-formed mnemonic.Lui operands =
+    chained IsFormed _ _ (λ p is. lui-formed p.0 p.1 (two-gives ShortHigh _ _ high-short operands p is))
+insn-formed mnemonic.Auipc operands = mapped IsFormed _ _ (two-gives ShortHigh _ _ high-short operands)
+insn-formed mnemonic.Jal operands = mapped IsFormed _ _ (λ p is. two-gives ShortTarget _ _ target-short operands p is _)
+insn-formed mnemonic.Jalr operands =
+    mapped IsFormed _ _ (λ p is. two-gives ShortPlace _ _ place-short operands p is _ _)
+insn-formed mnemonic.Fence operands = alone-formed statements.Fence operands tt
+insn-formed mnemonic.Ecall operands = alone-formed statements.Ecall operands tt
+insn-formed mnemonic.Ebreak operands = alone-formed statements.Ebreak operands tt
 
-jal-short : (rest : List ℕ) → Short (jal_form rest)
-unfolding jal_form
-jal-short rest =
-    bind IsFormed (two_in rest) _ (λ words e. bind IsFormed (register_in words.0) _ (λ rd f.
-    bind IsFormed (target_in words.1) _ (λ target is.
-    given IsFormed (statements.Jal rd target) (target-refers _ target (target-short words.1 target is)))))
+short-formed : (form : Short) (operands : List (List (List ℕ))) → Formed (short_in form operands)
+short-formed short.Nop operands =
+    either IsFormed (no_operands operands) _ _
+    (insn-formed (mnemonic.OpImm Addi) (operand (codes "x0") ∷ operand (codes "x0") ∷ operand (codes "0") ∷ []))
+    (none IsFormed)
+short-formed short.Mv operands = insn-formed (mnemonic.OpImm Addi) (operands ++ operand (codes "0") ∷ [])
+short-formed short.J operands = insn-formed mnemonic.Jal (operand (codes "x0") ∷ operands)
+short-formed short.Jr operands = mapped IsFormed _ _ (λ rs e. tt)
+short-formed short.Li operands = mapped IsFormed _ _ (λ p e. tt)
+short-formed short.La operands = mapped IsFormed _ _ (two-gives IsShort _ _ name-short operands)
+short-formed short.Ret operands = alone-formed statements.Ret operands tt
+short-formed short.Call operands = mapped IsFormed _ _ (one-gives IsShort _ name-short operands)
+short-formed short.Tail operands = mapped IsFormed _ _ (one-gives IsShort _ name-short operands)
 
-alone-short : (s : Statement) (words : List (List ℕ)) → IsFormed s → Short (alone s words)
-alone-short s [] short = given IsFormed s short
-alone-short s (word ∷ words) short = none IsFormed
+-- ---- directives
 
-mv-short : (rest : List ℕ) → Short (mv_form rest)
-unfolding mv_form
-mv-short rest =
-    bind IsFormed (two_in rest) _ (λ words e. bind IsFormed (register_in words.0) _ (λ rd f.
-    bind IsFormed (register_in words.1) _ (λ rs1 g.
-    given IsFormed (statements.OpImm Addi rd rs1 (lows.Number (pos 0))) tt)))
+counted-formed : (kind : NodeKind) (fields : List ℤ) (b : Bool) → has_count kind (length fields) ≡ b
+    → Formed (if b then Some (statements.Node kind fields) else None)
+counted-formed kind fields true is = given IsFormed _ is
+counted-formed kind fields false is = none IsFormed
 
-li-short : (rest : List ℕ) → Short (li_form rest)
-unfolding li_form
-li-short rest =
-    bind IsFormed (two_in rest) _ (λ words e. bind IsFormed (register_in words.0) _ (λ rd f.
-    bind IsFormed (integer_in words.1) _ (λ number g. given IsFormed (statements.Li rd number) tt)))
+node-formed : (words : List (List ℕ)) → Formed (node_words words)
+node-formed [] = none IsFormed
+node-formed (word ∷ words) =
+    chained IsFormed _ (called node_kind_text node_kinds word) (λ kind e.
+    chained IsFormed _ (integers_in words) (λ fields f.
+    counted-formed kind fields (has_count kind (length fields)) refl))
 
-la-short : (rest : List ℕ) → Short (la_form rest)
-unfolding la_form
-la-short rest =
-    bind IsFormed (two_in rest) _ (λ words e. bind IsFormed (register_in words.0) _ (λ rd f.
-    bind IsFormed (name_in words.1) _ (λ name is.
-    given IsFormed (statements.La rd name) (name-short words.1 name is))))
+func_by-formed : (name node : List ℕ) (taken : Bool) → Formed (func_by name node taken)
+func_by-formed name node taken =
+    chained IsFormed _ (name_in name) (λ n is. chained IsFormed _ (integer_in node) (λ number e.
+    given IsFormed _ (name-short name n is)))
 
-j-short : (rest : List ℕ) → Short (j_form rest)
-unfolding j_form
-j-short rest =
-    bind IsFormed (word_in rest) _ (λ word e. bind IsFormed (target_in word) _ (λ target is.
-    given IsFormed (statements.Jal 0 target) (target-refers _ target (target-short word target is))))
+func-formed : (words : List (List ℕ)) → Formed (func_words words)
+func-formed [] = none IsFormed
+func-formed (name ∷ []) = none IsFormed
+func-formed (name ∷ node ∷ []) = func_by-formed name node false
+func-formed (name ∷ node ∷ taken ∷ []) =
+    either IsFormed (bytes_eq taken (codes "taken")) _ _ (func_by-formed name node true) (none IsFormed)
+func-formed (name ∷ node ∷ taken ∷ word ∷ words) = none IsFormed
 
-jr-short : (rest : List ℕ) → Short (jr_form rest)
-unfolding jr_form
-jr-short rest =
-    bind IsFormed (word_in rest) _ (λ word e. bind IsFormed (register_in word) _ (λ rs1 f.
-    given IsFormed (statements.Jalr 0 rs1 (lows.Number (pos 0))) tt))
+switch-formed : (names : List (List ℕ)) → AllShort names → Formed (switch_of names)
+switch-formed [] all = none IsFormed
+switch-formed (name ∷ names) all = given IsFormed _ (all, omega arith)
 
-word-short : (rest : List ℕ) → Short (word_form rest)
-unfolding word_form
-word-short rest =
-    bind IsFormed (word_in rest) _ (λ word e. bind IsFormed (datum_in word) _ (λ datum is.
-    given IsFormed (statements.Word datum) (datum-refers datum (datum-short word datum is))))
-
-zero-short : (rest : List ℕ) → Short (zero_form rest)
-unfolding zero_form
-zero-short rest =
-    bind IsFormed (word_in rest) _ (λ word e. bind IsFormed (integer_in word) _ (λ number f.
-    given IsFormed (statements.Zero number) tt))
-
-counted-short : (kind : NodeKind) (fields : List ℤ) (b : Bool) → has_count kind (length fields) ≡ b
-    → Short (if b then Some (statements.Node kind fields) else None)
-counted-short kind fields true is = given IsFormed (statements.Node kind fields) is
-counted-short kind fields false is = none IsFormed
-
-node-short : (words : List (List ℕ)) → Short (node_words words)
-node-short [] = none IsFormed
-node-short (word ∷ words) =
-    bind IsFormed (node_kind_called word) _ (λ kind e. bind IsFormed (integers_in words) _ (λ fields f.
-    counted-short kind fields (has_count kind (length fields)) refl))
-
-func_by-short : (name node : List ℕ) (taken : Bool) → Short (func_by name node taken)
-func_by-short name node taken =
-    bind IsFormed (name_in name) _ (λ n is. bind IsFormed (integer_in node) _ (λ number f.
-    given IsFormed (statements.Func n number taken) (name-short name n is)))
-
-func-short : (words : List (List ℕ)) → Short (func_words words)
-func-short [] = none IsFormed
-func-short (name ∷ []) = none IsFormed
-func-short (name ∷ node ∷ []) = func_by-short name node false
-func-short (name ∷ node ∷ taken ∷ []) =
-    either IsFormed (bytes_eq taken (codes "taken")) _ _ (func_by-short name node true) (none IsFormed)
-func-short (name ∷ node ∷ taken ∷ word ∷ words) = none IsFormed
-
-switch-short : (names : List (List ℕ)) → AllShort names → Short (switch_of names)
-switch-short [] short = none IsFormed
-switch-short (name ∷ names) short = given IsFormed (statements.KindSwitch (name ∷ names)) (short, omega arith)
-
-kind_by-short : (kind : List ℕ) (words : List (List ℕ)) → Short (kind_by kind words)
+kind_by-formed : (kind : List ℕ) (words : List (List ℕ)) → Formed (kind_by kind words)
 unfolding kind_by
-kind_by-short kind words =
-    either IsFormed (bytes_eq kind (codes "call")) _ _
-    (mapped IsFormed statements.KindCall (only_integer words) (λ x e. tt))
-    (either IsFormed (bytes_eq kind (codes "tail")) _ _
-    (mapped IsFormed statements.KindTail (only_integer words) (λ x e. tt))
-    (either IsFormed (bytes_eq kind (codes "return")) _ _ (alone-short statements.KindReturn words tt)
+kind_by-formed kind words =
+    either IsFormed (bytes_eq kind (codes "call")) _ _ (mapped IsFormed _ (only_integer words) (λ x e. tt))
+    (either IsFormed (bytes_eq kind (codes "tail")) _ _ (mapped IsFormed _ (only_integer words) (λ x e. tt))
+    (either IsFormed (bytes_eq kind (codes "return")) _ _
+    (either IsFormed (is_empty words) _ _ (given IsFormed statements.KindReturn tt) (none IsFormed))
     (either IsFormed (bytes_eq kind (codes "switch")) _ _
-    (chained IsFormed switch_of (names_in words) (λ names is. switch-short names (names-short words names is)))
+    (chained IsFormed switch_of (names_in words) (λ names is. switch-formed names (names-short words names is)))
     (none IsFormed))))
 
-kind-short : (words : List (List ℕ)) → Short (kind_words words)
-kind-short [] = none IsFormed
-kind-short (kind ∷ words) = kind_by-short kind words
+kind-formed : (words : List (List ℕ)) → Formed (kind_words words)
+kind-formed [] = none IsFormed
+kind-formed (kind ∷ words) = kind_by-formed kind words
 
-keyword-short : (keyword : Keyword) (rest : List ℕ) → Short (keyword_form keyword rest)
-keyword-short keywords.Lui rest =
-    chained IsFormed _ (register_and_high rest) (λ p is. lui_by-short p.0 p.1 (upper-short rest p is))
-keyword-short keywords.Auipc rest =
-    mapped IsFormed _ (register_and_high rest) (λ p is. high-refers p.1 (upper-short rest p is))
-keyword-short keywords.Jal rest = jal-short rest
-keyword-short keywords.Jalr rest =
-    mapped IsFormed _ (register_and_place rest) (λ p is. low-refers _ _ p.1 (pair-short rest p is))
-keyword-short keywords.Fence rest = alone-short statements.Fence _ tt
-keyword-short keywords.Ecall rest = alone-short statements.Ecall _ tt
-keyword-short keywords.Ebreak rest = alone-short statements.Ebreak _ tt
-keyword-short keywords.Nop rest = alone-short (statements.OpImm Addi 0 0 (lows.Number (pos 0))) _ tt
-keyword-short keywords.Mv rest = mv-short rest
-keyword-short keywords.Li rest = li-short rest
-keyword-short keywords.La rest = la-short rest
-keyword-short keywords.J rest = j-short rest
-keyword-short keywords.Jr rest = jr-short rest
-keyword-short keywords.Ret rest = alone-short statements.Ret _ tt
-keyword-short keywords.Call rest = mapped IsFormed statements.Call (name_form rest) (one_name-short rest)
-keyword-short keywords.Tail rest = mapped IsFormed statements.Tail (name_form rest) (one_name-short rest)
-keyword-short keywords.Text rest = alone-short statements.Text _ tt
-keyword-short keywords.Data rest = alone-short statements.Data _ tt
-keyword-short keywords.Globl rest = mapped IsFormed statements.Globl (name_form rest) (one_name-short rest)
-keyword-short keywords.Word rest = word-short rest
-keyword-short keywords.Zero rest = zero-short rest
-keyword-short keywords.Node rest = node-short (words_in rest)
-keyword-short keywords.Func rest = func-short (words_in rest)
-keyword-short keywords.EndFunc rest = alone-short statements.EndFunc _ tt
-keyword-short keywords.Kind rest = kind-short (words_in rest)
+directive-formed : (what : Directive) (rest : List ℕ) → Formed (directive_in what rest)
+directive-formed directive.Text rest = alone-formed statements.Text (operands_in rest) tt
+directive-formed directive.Data rest = alone-formed statements.Data (operands_in rest) tt
+directive-formed directive.Globl rest = mapped IsFormed _ _ (one-gives IsShort _ name-short (operands_in rest))
+directive-formed directive.Word rest = mapped IsFormed _ _ (one-gives ShortDatum _ datum-short (operands_in rest))
+directive-formed directive.Zero rest = mapped IsFormed _ _ (λ number e. tt)
+directive-formed directive.Node rest = node-formed (words_in rest)
+directive-formed directive.Func rest = func-formed (words_in rest)
+directive-formed directive.EndFunc rest = alone-formed statements.EndFunc (operands_in rest) tt
+directive-formed directive.Kind rest = kind-formed (words_in rest)
 
-or-short : {X : Type 0} (o : Option X) (form : X → (rest : List ℕ) → Option Statement) (rest : List ℕ)
-    (other : Option Statement) → ((x : X) → Short (form x rest)) → Short other → Short (form_or o form rest other)
-or-short None form rest other short next = next
-or-short (Some x) form rest other short next = short x
+-- ---- a statement
 
-form-short : (word rest : List ℕ) → Short (form_of word rest)
+or-formed : {X : Type 0} (o : Option X) (says : X → Option Statement) (other : Option Statement)
+    → ((x : X) → Formed (says x)) → Formed other → Formed (said_or o says other)
+or-formed None says other all next = next
+or-formed (Some x) says other all next = all x
+
+form-formed : (word rest : List ℕ) → Formed (form_of word rest)
 unfolding form_of
-form-short word rest =
-    or-short (op_called word) op_form rest _ (λ op. op-short op rest)
-    (or-short (imm_op_called word) imm_op_form rest _ (λ op. imm_op-short op rest)
-    (or-short (load_called word) _ rest _
-    (λ k. mapped IsFormed _ (register_and_place rest) (λ p is. low-refers _ _ p.1 (pair-short rest p is)))
-    (or-short (store_called word) _ rest _
-    (λ k. mapped IsFormed _ (register_and_place rest) (λ p is. low-refers _ _ p.1 (pair-short rest p is)))
-    (or-short (cond_called word) branch_form rest _ (λ k. branch-short k rest)
-    (or-short (keyword_called word) keyword_form rest None (λ k. keyword-short k rest) (none IsFormed))))))
+form-formed word rest =
+    or-formed (called mnemonic_text mnemonics word) _ _ (λ insn. insn-formed insn (operands_in rest))
+    (or-formed (called short_text shorts word) _ _ (λ form. short-formed form (operands_in rest))
+    (or-formed (called directive_text directives word) _ _ (λ what. directive-formed what rest) (none IsFormed)))
 
 -- ---- a line
 
@@ -220,22 +162,22 @@ SaidFormed (Some s) = IsFormed s
 abbrev pub IsFormedLine : Line → Type 0
 IsFormedLine line = LabelShort line.label × SaidFormed line.statement
 
-said-short : (form : Option Statement) → Short form → SaidFormed form
-said-short None short = tt
-said-short (Some s) short = short s refl
+said-formed : (form : Option Statement) → Formed form → SaidFormed form
+said-formed None formed = tt
+said-formed (Some s) formed = formed s refl
 
-words-short : (word rest : List ℕ) → SaidFormed (words_form word rest)
-words-short [] rest = tt
-words-short (byte ∷ bytes) rest = said-short (form_of (byte ∷ bytes) rest) (form-short (byte ∷ bytes) rest)
+words-formed : (word rest : List ℕ) → SaidFormed (words_form word rest)
+words-formed [] rest = tt
+words-formed (byte ∷ bytes) rest = said-formed (form_of (byte ∷ bytes) rest) (form-formed (byte ∷ bytes) rest)
 
-labelled-short : (label : Option (List ℕ)) (back text : List ℕ) → Gives IsShort label
+labelled-formed : (label : Option (List ℕ)) (back text : List ℕ) → Gives IsShort label
     → IsFormedLine (labelled_in label back text)
-labelled-short None back text short = (tt, tt)
-labelled-short (Some name) back text short = (short name refl, words-short (first_word back) (after_word back))
+labelled-formed None back text short = (tt, tt)
+labelled-formed (Some name) back text short = (short name refl, words-formed (first_word back) (after_word back))
 
-parts-short : (parts : Option (List ℕ × List ℕ)) (text : List ℕ) → IsFormedLine (parts_in parts text)
-parts-short None text = (tt, words-short (first_word text) (after_word text))
-parts-short (Some p) text = labelled-short (name_in (unblanked p.0)) p.1 text (name-short (unblanked p.0))
+parts-formed : (parts : Option (List ℕ × List ℕ)) (text : List ℕ) → IsFormedLine (parts_in parts text)
+parts-formed None text = (tt, words-formed (first_word text) (after_word text))
+parts-formed (Some p) text = labelled-formed (name_in (unblanked p.0)) p.1 text (name-short (unblanked p.0))
 
 pub line-short : (line : List ℕ) → IsFormedLine (line_in line)
-line-short line = parts-short (cut 58 (statement_of line)) (statement_of line)
+line-short line = parts-formed (cut 58 (statement_of line)) (statement_of line)

@@ -11,14 +11,12 @@ use Rattle.elf_read.specs.declared.relocation.TheConstants.{HI20, LO12_I}
 use Rattle.cfi_aux.specs.Sound.{IsSoundModule}
 use Rattle.cfi_aux.specs.declared.modules.Module.{Module}
 use Rattle.cfi_import.proofs.LimitLemmas.{AreFew}
-use Rattle.cfi_import.specs.declared.start.Start.{Start}
 use Rattle.cfi_import.specs.Imports.{imports_of, place_of}
 use Rattle.cfi_import.specs.Start.{start_of, stub_offset, cell_offset, text_end}
 use Rattle.cfi_import.specs.Stubs.{unnamed, stub_symbols, cell_reloc, stub_relocs, moved}
-use Rattle.cfi_import.specs.Stubbed.{Parts, parts_of, parts_with, part_sizes, stubs_pass, IsStubbed}
-use Rattle.cfi_import.specs.inner.Room.{HasRoom}
+use Rattle.cfi_import.specs.Stubbed.{Parts, parts_with, part_sizes, stubs_pass, IsStubbed}
 use Rattle.cfi_import.proofs.MadeLemmas.{has-room}
-use Rattle.cfi_made_law.proofs.ReadLemmas.{IsSmall, IsFit}
+use Rattle.cfi_made_law.proofs.ReadLemmas.{IsFit}
 use Rattle.cfi_made_law.proofs.BetweenLemmas.{all-two, all-joined, all-left, all-right, in-two}
 use Rattle.cfi_made_law.proofs.StubWholeLemmas.{stubbed-few, stubbed-small}
 

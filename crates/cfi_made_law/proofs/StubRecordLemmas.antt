@@ -1,5 +1,5 @@
 -- The records of a module with stubs are as records must be, and its sections spell its types and them.
-use Rattle.std.proofs.Common.{◌≡◌, ◌∙◌, ℕ, ◌+◌, ◌%◌, ◌≤◌, ◌<◌, ◌||◌, ◌==◌, IsTrue, not, Bool, true, false, leb, List, [], ◌∷◌, ◌++◌, length, get_or, map, filter, All, Some, None, refl, sym, ap, subst, inl, inr, arith, length-append}
+use Rattle.std.proofs.Common.{◌≡◌, ◌∙◌, ℕ, ◌+◌, ◌%◌, ◌≤◌, ◌||◌, ◌==◌, IsTrue, not, Bool, true, leb, List, [], ◌∷◌, ◌++◌, length, get_or, map, filter, All, Some, None, refl, sym, ap, subst, inl, inr, arith, length-append}
 use Rattle.std.specs.List.{AllByRecursion, enumerate_from, list_any}
 use Rattle.std.proofs.lemmas.Bool.{cases_Bool, and_parts, and_from, eq-eqb, le-leb, leb-true, false≢true}
 use Rattle.std.proofs.lemmas.Bool.Decides.{nat_tests}
