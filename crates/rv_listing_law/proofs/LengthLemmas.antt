@@ -58,7 +58,8 @@ offset-short (negsuc n) = joined (codes ".-") (decimal (suc n)) 2 64 (omega arit
 hex-short : (count value : ℕ) → length (hex_digits count value) ≤ count
 hex-short zero value = omega arith
 hex-short (suc count) value =
-    omega (arith, length-append (hex_digits count (value / 16)) (hex_digit (value % 16) ∷ []), hex-short count (value / 16))
+    let front = value / 16 in
+    omega (arith, length-append (hex_digits count front) (hex_digit (value % 16) ∷ []), hex-short count front)
 
 -- ---- mnemonics
 
@@ -157,7 +158,7 @@ insn-short (insns.Lui rd imm) = upper-short (codes "lui") rd imm (omega arith)
 insn-short (insns.Auipc rd imm) = upper-short (codes "auipc") rd imm (omega arith)
 insn-short (insns.Jal rd off) = jump-short rd off
 insn-short (insns.Jalr rd rs1 imm) = place-short (codes "jalr") rd rs1 imm (omega arith)
-insn-short (insns.Branch cond rs1 rs2 off) = branch-short (cond_name cond) rs1 rs2 off (name-short (mnemonic.Branch cond))
+insn-short (insns.Branch c rs1 rs2 off) = branch-short (cond_name c) rs1 rs2 off (name-short (mnemonic.Branch c))
 insn-short (insns.Load kind rd rs1 imm) = place-short (load_name kind) rd rs1 imm (name-short (mnemonic.Load kind))
 insn-short (insns.Store kind rs1 rs2 imm) = place-short (store_name kind) rs2 rs1 imm (name-short (mnemonic.Store kind))
 insn-short (insns.OpImm op rd rs1 imm) = immediate-short (imm_op_name op) rd rs1 imm (name-short (mnemonic.OpImm op))

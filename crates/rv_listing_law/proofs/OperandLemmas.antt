@@ -1,7 +1,6 @@
 -- The operands of a text that ends in a blank.
-use Rattle.std.proofs.Common.{◌≡◌, ℕ, ◌<◌, true, Some, Option, List, [], ◌∷◌, ◌++◌, length, map, filter, refl, ap, ◌∙◌, append_assoc, arith}
+use Rattle.std.proofs.Common.{◌≡◌, ℕ, ◌<◌, true, Some, Option, List, [], ◌∷◌, ◌++◌, length, map, refl, ap, append_assoc, arith}
 use Rattle.std.specs.List.{slice_split, onto_first}
-use Rattle.std.proofs.lemmas.Bool.{and_from}
 use Rattle.std.proofs.lemmas.List.Splits.{slice_split_none, slice_split_at, length-slice_split}
 use Rattle.cfi_text.specs.Words.{is_blank, has_byte, words_in, is_solid}
 use Rattle.rv_line.specs.Operand.{is_byte, operands_in, operand}
@@ -34,6 +33,7 @@ pub record AreOperands (text : List ℕ) (words : List (List ℕ)) : Type 0 wher
   pub same : operands_in (text ++ 32 ∷ []) ≡ map operand words
 
 module _ {A : Type 0} {read : List ℕ → Option A} {a : List ℕ} {value : A} (is : IsRead read a value) where
+  -- the last operand, and one ahead of others
   pub last : AreOperands a (a ∷ [])
   unfolding operands_in
   last =

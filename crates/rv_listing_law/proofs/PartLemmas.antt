@@ -1,5 +1,5 @@
 -- The parts of a listing's lines are operands, and are read back.
-use Rattle.std.proofs.Common.{◌≡◌, ℕ, suc, ◌^◌, ◌<◌, Bool, true, Option, Some, List, [], ◌∷◌, ◌++◌, ℤ, pos, negsuc, length, refl, sym, ap, ◌∙◌, append_assoc, arith, length-append}
+use Rattle.std.proofs.Common.{◌≡◌, ℕ, suc, ◌^◌, ◌<◌, Bool, true, Some, List, [], ◌∷◌, ◌++◌, ℤ, pos, negsuc, length, refl, sym, ap, ◌∙◌, append_assoc, arith, length-append}
 use Rattle.std.specs.Fmt.{decimal, signed_decimal}
 use Rattle.std.proofs.lemmas.Bool.{and_from}
 use Rattle.std.proofs.lemmas.Fmt.{decimal_nonempty}
@@ -7,7 +7,6 @@ use Rattle.cfi_text.specs.Words.{has_byte, is_solid}
 use Rattle.cfi_text.specs.Hex.{hex8_text}
 use Rattle.rv_insn.specs.Word.{IsSigned}
 use Rattle.rv_text.specs.Text.{hex, offset_text}
-use Rattle.rv_line.specs.declared.immediate.Place.{Place}
 use Rattle.rv_line.specs.declared.statement.Low.TheVariants as lows
 use Rattle.rv_line.specs.declared.statement.High.TheVariants as highs
 use Rattle.rv_line.specs.declared.statement.Target.TheVariants as targets

@@ -1,5 +1,5 @@
 -- The text of an instruction says its statement.
-use Rattle.std.proofs.Common.{◌≡◌, ℕ, ◌+◌, ◌^◌, ◌<◌, ◌==◌, Bool, true, false, Option, Some, None, List, [], ◌∷◌, ◌++◌, ℤ, pos, negsuc, map, refl, sym, ap, subst, ◌∙◌, append_assoc, arith}
+use Rattle.std.proofs.Common.{◌≡◌, ℕ, ◌+◌, ◌^◌, ◌<◌, ◌==◌, Bool, true, false, Option, Some, None, List, [], ◌∷◌, ◌++◌, ℤ, pos, negsuc, map, refl, ap, ◌∙◌, append_assoc, arith}
 use Rattle.std.specs.Prelude.{codes}
 use Rattle.cfi_text.specs.Words.{words_in}
 use Rattle.rv_insn.specs.declared.insn.Insn.{Insn}
@@ -15,7 +15,6 @@ use Rattle.rv_text.specs.Text.{word_number, fence_text, text_of, read_text, word
 use Rattle.rv_line.specs.declared.keyword.Mnemonic.{Mnemonic}
 use Rattle.rv_line.specs.declared.keyword.Mnemonic.TheVariants as mnemonic
 use Rattle.rv_line.specs.declared.statement.Statement.{Statement}
-use Rattle.rv_line.specs.declared.statement.Statement.TheVariants as statements
 use Rattle.rv_line.specs.Keyword.{called, mnemonic_text}
 use Rattle.rv_line.specs.Operand.{cut, operands_in, operand}
 use Rattle.rv_line.specs.Statement.{insn_in, form_of}
@@ -34,7 +33,7 @@ pub record Says (text : List ℕ) (statement : Statement) : Type 0 where
 
 -- a word and operands
 module _ {name rest text : List ℕ} {form : List (List (List ℕ)) → Option Statement} {words : List (List ℕ)}
-  {statement : Statement} (selects : Selects name form) (are : AreOperands rest words)
+    {statement : Statement} (selects : Selects name form) (are : AreOperands rest words)
   where
     Says-by : text ≡ name ++ 32 ∷ rest → form (map operand words) ≡ Some statement → Says text statement
     Says-by same says = record {
@@ -109,13 +108,11 @@ Says-insn (insns.Branch condition rs1 rs2 off) word small is =
 Says-insn (insns.Load kind rd rs1 imm) word small is =
     let first = IsRead-register rd is.range.0 in
     let second = IsRead-place imm rs1 is.range.2 is.range.1 in
-    Says-text (mnemonic.Load kind) (more first (last second))
-    (simp append_assoc) (rw (first.same, second.same) refl)
+    Says-text (mnemonic.Load kind) (more first (last second)) (simp append_assoc) (rw (first.same, second.same) refl)
 Says-insn (insns.Store kind rs1 rs2 imm) word small is =
     let first = IsRead-register rs2 is.range.1 in
     let second = IsRead-place imm rs1 is.range.2 is.range.0 in
-    Says-text (mnemonic.Store kind) (more first (last second))
-    (simp append_assoc) (rw (first.same, second.same) refl)
+    Says-text (mnemonic.Store kind) (more first (last second)) (simp append_assoc) (rw (first.same, second.same) refl)
 Says-insn (insns.OpImm op rd rs1 imm) word small is =
     let first = IsRead-register rd is.range.0 in
     let second = IsRead-register rs1 is.range.1 in

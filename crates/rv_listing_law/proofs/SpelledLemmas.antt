@@ -1,5 +1,5 @@
 -- The numbers and registers of a listing are read back.
-use Rattle.std.proofs.Common.{◌≡◌, ℕ, suc, ◌-◌, ◌^◌, ◌<◌, Bool, true, false, ◌&&◌, Some, List, [], ◌∷◌, ℤ, pos, negsuc, refl, ap, ◌∙◌, arith}
+use Rattle.std.proofs.Common.{◌≡◌, ℕ, suc, ◌-◌, ◌^◌, ◌<◌, true, false, ◌&&◌, Some, List, [], ◌∷◌, ℤ, pos, negsuc, refl, ap, ◌∙◌, arith}
 use Rattle.std.specs.Prelude.{nat_eq, nat_lt, codes, option_map, option_and_then}
 use Rattle.std.specs.Int.{IsInRange}
 use Rattle.std.specs.List.{starts_with}
